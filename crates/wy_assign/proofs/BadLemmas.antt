@@ -6,12 +6,13 @@ use Rattle.wy_assign.specs.Assigned.{unset_behind, UsesUnset, SomeUse}
 use Rattle.wy_assign.specs.Marks.{Marks, has, all_set}
 use Rattle.wy_assign.specs.Flows.{alone, head}
 use Rattle.wy_assign.specs.declared.flow.Flow.{Flow}
-use Rattle.wy_assign.proofs.EventLemmas.{either, never, behind, behind_more, behind-append, uses_more, uses_split, uses_left, uses_right, Quiet, behind_quiet, uses_quiet, behind_reads}
+use Rattle.wy_assign.proofs.EventLemmas.{behind, behind_more, behind-append, uses_more, uses_split, uses_left, uses_right, Quiet, behind_quiet, uses_quiet, behind_reads}
 use Rattle.wy_assign.proofs.CalmLemmas.{Calm}
-use Rattle.wy_assign.proofs.MarkLemmas.{by_truth, holds, Sane}
+use Rattle.wy_assign.proofs.MarkLemmas.{holds, Sane}
 use Rattle.wy_assign.proofs.FlowLemmas.{Comes, Tells, Sound, add_reads}
 use Rattle.wy_assign.proofs.LoopLemmas.{head_reached, Turned, head_of, head_to, sane_head, split, at_least, Goes, turn_of, turn_to}
 use Rattle.wy_assign.proofs.UseLemmas.{after_reads}
+use Rattle.wy_lemmas.proofs.Choices.{false_true as never, by_truth, either}
 
 -- some path from these marks uses at this place a variable that has no value there
 abbrev pub Bad : Course → Marks → ℕ → Type 0

@@ -2,7 +2,8 @@
 use Rattle.std.proofs.Common.{◌≡◌, ◌⊎◌, inl, inr, ℕ, zero, suc, Bool, true, false, List, [], ◌∷◌, ◌++◌, Option, Some, None, refl, sym, subst}
 use Rattle.wy_core.specs.CoreTree.{Expr, NullExpr, BoolExpr, IntExpr, VarExpr, CallExpr, NegExpr, NotExpr, LenExpr, BinaryExpr, IsExpr, IndexExpr, FieldExpr, ListExpr, RepeatExpr, RecordExpr, QuantExpr, Exprs, NoExprs, MoreExprs, Fields, NoFields, MoreFields, Step, IndexStep, FieldStep}
 use Rattle.wy_assign.specs.Paths.{Event, Uses, Sets, Unsets, Through, Nothing, One, Then, Maybe, Times, AnyTimes, is_early, ExprPath, ExprsPath, FieldsPath, ClausesPath, OptionPath, StepPath, StepsPath}
-use Rattle.wy_assign.proofs.EventLemmas.{either, Quiet, quiet-append, Reads, reads-append}
+use Rattle.wy_assign.proofs.EventLemmas.{Quiet, quiet-append, Reads, reads-append}
+use Rattle.wy_lemmas.proofs.Choices.{either}
 
 pub record Calm (A : Through) : Type 0 where
   pub quiet : (p : List Event) → A p → Quiet p

@@ -2,28 +2,14 @@
 use Rattle.std.proofs.Common.{◌≡◌, ◌⊎◌, inl, inr, ℕ, Bool, true, false, cond, ◌==◌, List, [], ◌∷◌, ◌++◌, Option, Some, None, refl, sym, ap, ◌∙◌}
 use Rattle.wy_assign.specs.Paths.{Event, Uses, Sets, Unsets}
 use Rattle.wy_assign.specs.Assigned.{unset_behind, UsesUnset}
-
-pub either : {A B C : Type 0} → (A → C) → (B → C) → A ⊎ B → C
-either f g (inl a) = f a
-either f g (inr b) = g b
-
-pub never : {A : Type 0} → false ≡ true → A
-never e = absurd (cc)
-
-pub cond_more : (b k u v : Bool) → (u ≡ true → v ≡ true) → cond b k u ≡ true → cond b k v ≡ true
-cond_more true k u v h e = e
-cond_more false k u v h e = h e
-
-cond_less : (b u : Bool) → cond b false u ≡ true → u ≡ true
-cond_less true u e = never e
-cond_less false u e = e
+use Rattle.wy_lemmas.proofs.Choices.{cond_more, cond_less, either}
 
 -- whether what is watched stands behind the events: a variable without a value, or None for the point itself
 abbrev pub behind : Option ℕ → Bool → List Event → Bool
 behind None u p = u
 behind (Some x) u p = unset_behind x u p
 
-unset_more : (x : ℕ) (u v : Bool) (p : List Event) → (u ≡ true → v ≡ true) → unset_behind x u p ≡ true → unset_behind x v p ≡ true
+pub unset_more : (x : ℕ) (u v : Bool) (p : List Event) → (u ≡ true → v ≡ true) → unset_behind x u p ≡ true → unset_behind x v p ≡ true
 unset_more x u v [] h e = h e
 unset_more x u v (Uses at y ∷ p) h e = unset_more x u v p h e
 unset_more x u v (Sets y ∷ p) h e = unset_more x (cond (x == y) false u) (cond (x == y) false v) p (cond_more (x == y) false u v h) e
@@ -33,7 +19,7 @@ pub behind_more : (w : Option ℕ) (u v : Bool) (p : List Event) → (u ≡ true
 behind_more None u v p h e = h e
 behind_more (Some x) u v p h e = unset_more x u v p h e
 
-unset-append : (x : ℕ) (u : Bool) (p q : List Event) → unset_behind x u (p ++ q) ≡ unset_behind x (unset_behind x u p) q
+pub unset-append : (x : ℕ) (u : Bool) (p q : List Event) → unset_behind x u (p ++ q) ≡ unset_behind x (unset_behind x u p) q
 unset-append x u [] q = refl
 unset-append x u (Uses at y ∷ p) q = unset-append x u p q
 unset-append x u (Sets y ∷ p) q = unset-append x (cond (x == y) false u) p q
@@ -111,7 +97,7 @@ reads-append (Uses at y ∷ p) q h k = reads-append p q h k
 reads-append (Sets y ∷ p) q h k = absurd h
 reads-append (Unsets y ∷ p) q h k = absurd h
 
-unset_reads : (x : ℕ) (u : Bool) (p : List Event) → Reads p → unset_behind x u p ≡ u
+pub unset_reads : (x : ℕ) (u : Bool) (p : List Event) → Reads p → unset_behind x u p ≡ u
 unset_reads x u [] h = refl
 unset_reads x u (Uses at y ∷ p) h = unset_reads x u p h
 unset_reads x u (Sets y ∷ p) h = absurd h

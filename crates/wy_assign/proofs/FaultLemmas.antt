@@ -7,7 +7,6 @@ use Rattle.wy_assign.specs.Marks.{Marks, has}
 use Rattle.wy_assign.specs.Flows.{from_here, alone, otherwise, head, flow, flow_all}
 use Rattle.wy_assign.specs.Faults.{noted_where, expr_faults, exprs_faults, clauses_faults, option_faults, steps_faults, path_faults, faults, faults_all}
 use Rattle.wy_assign.specs.declared.flow.Flow.{Flow}
-use Rattle.wy_assign.proofs.EventLemmas.{either}
 use Rattle.wy_assign.proofs.CalmLemmas.{Calm, calm_one, calm_then, calm_expr, calm_exprs, calm_clauses, calm_option, calm_steps, calm_nothing}
 use Rattle.wy_assign.proofs.MarkLemmas.{Sane}
 use Rattle.wy_assign.proofs.FlowLemmas.{Tells, Sound, sound_from, sound_alone}

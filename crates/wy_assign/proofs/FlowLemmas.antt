@@ -5,9 +5,10 @@ use Rattle.wy_assign.specs.Paths.{Event, Uses, Sets, Unsets, End, Falls, Breaks,
 use Rattle.wy_assign.specs.Marks.{Marks, has, nowhere, all_set, assigned, declared, joined}
 use Rattle.wy_assign.specs.Flows.{from_here, alone, declared_here, assigned_here, left, broken, continued, otherwise, rejoined, head, exit, looped, flow, flow_all}
 use Rattle.wy_assign.specs.declared.flow.Flow.{Flow}
-use Rattle.wy_assign.proofs.EventLemmas.{either, never, behind, behind_more, behind-append, Quiet, behind_quiet, Reads, behind_reads}
+use Rattle.wy_assign.proofs.EventLemmas.{behind, behind_more, behind-append, Quiet, behind_quiet, Reads, behind_reads}
 use Rattle.wy_assign.proofs.CalmLemmas.{Calm, calm_one, calm_then, calm_expr, calm_exprs, calm_clauses, calm_option, calm_steps, calm_nothing}
-use Rattle.wy_assign.proofs.MarkLemmas.{by_truth, holds, Sane, sane_nowhere, sane_all, holds-nowhere, dead, holds-assigned, holds-declared, dead-declared, joined_of, joined_to, sane_joined}
+use Rattle.wy_assign.proofs.MarkLemmas.{holds, Sane, sane_nowhere, sane_all, holds-nowhere, dead, holds-assigned, holds-declared, dead-declared, joined_of, joined_to, sane_joined}
+use Rattle.wy_lemmas.proofs.Choices.{false_true as never, by_truth, either}
 
 -- a path leads from the marks to this end and leaves what is watched
 abbrev pub Comes : Option ℕ → Course → Marks → End → Type 0

@@ -1,8 +1,7 @@
 -- The least of the places at which something stands, and how one more is noted.
 use Rattle.std.proofs.Common.{◌≡◌, ◌⊎◌, inl, inr, ◌≤◌, ◌<◌, ℕ, Bool, true, false, nat_lt, cond, Option, Some, None, refl, sym, subst, arith}
 use Rattle.wy_assign.specs.Faults.{noted, noted_where}
-use Rattle.wy_assign.proofs.EventLemmas.{either, never}
-use Rattle.wy_assign.proofs.MarkLemmas.{by_truth, lt_true, lt_false}
+use Rattle.wy_lemmas.proofs.Choices.{lt_false, lt_true, false_true as never, by_truth, either}
 
 abbrev pub Least : (ℕ → Type 0) → Option ℕ → Type 0
 Least P None = (k : ℕ) → P k → ⊥

@@ -3,7 +3,7 @@ pub mod PutLemmas
 pub mod SeenLemmas
 pub mod WalkLemmas
 -- events in order, and what a path of uses is
-mod EventLemmas
+pub mod EventLemmas
 mod CalmLemmas
 -- what may be without a value
 mod MarkLemmas
@@ -13,7 +13,7 @@ mod TellsLemmas
 -- the least place of a use
 mod LeastLemmas
 mod UseLemmas
-mod BadLemmas
+pub mod BadLemmas
 mod FaultLemmas
 -- the answer
 pub mod ProgramLemmas

@@ -4,10 +4,11 @@ use Rattle.wy_assign.specs.Paths.{Event, End, Falls, Breaks, Continues, Leaves, 
 use Rattle.wy_assign.specs.Marks.{Marks, has, nowhere, all_set, joined}
 use Rattle.wy_assign.specs.Flows.{from_here, alone, head, exit, looped}
 use Rattle.wy_assign.specs.declared.flow.Flow.{Flow}
-use Rattle.wy_assign.proofs.EventLemmas.{either, never, behind, behind_more, behind-append, Quiet, behind_quiet, Reads, behind_reads}
+use Rattle.wy_assign.proofs.EventLemmas.{behind, behind_more, behind-append, Quiet, behind_quiet, Reads, behind_reads}
 use Rattle.wy_assign.proofs.CalmLemmas.{Calm}
-use Rattle.wy_assign.proofs.MarkLemmas.{by_truth, holds, Sane, sane_nowhere, holds-nowhere, joined_of, joined_to, sane_joined}
+use Rattle.wy_assign.proofs.MarkLemmas.{holds, Sane, sane_nowhere, holds-nowhere, joined_of, joined_to, sane_joined}
 use Rattle.wy_assign.proofs.FlowLemmas.{Comes, Tells, Sound, behind-nil, cut, skip_quiet, add_reads, breaks_falls, continues_falls}
+use Rattle.wy_lemmas.proofs.Choices.{false_true as never, by_truth, either}
 
 -- ---- the marks of a loop
 
@@ -85,12 +86,6 @@ loop_turn w H C s a r q c h = (
 loop_break : (w : Option ℕ) (H : Through) (C : Course) (s : Marks) → Calm H → s.reached ≡ true → (q : List Event) → C q Breaks → behind w (holds w all_set) q ≡ true → Comes w (Loop H C) s Falls
 loop_break w H C s a r q c h =
     (r, (a.some ++ q, (1, (a.some, q, refl, a.is_some, inl (refl, c))), add_reads w (holds w s) a.some q a.reads (behind_more w (holds w all_set) (holds w s) q (at_least w s r) h)))
-
-falls_or_leaves : End → Bool
-falls_or_leaves Falls = true
-falls_or_leaves Breaks = false
-falls_or_leaves Continues = false
-falls_or_leaves Leaves = true
 
 -- a loop takes the `break`s and `continue`s in it
 pub turns_end : (n : ℕ) (H : Through) (C : Course) (p : List Event) (end : End) → Turns n H C p end → (end ≡ Falls) ⊎ (end ≡ Leaves)

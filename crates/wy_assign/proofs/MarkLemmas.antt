@@ -1,20 +1,11 @@
 -- What marks say behind an assignment, a declaration and a join.
-use Rattle.std.proofs.Common.{◌≡◌, ◌≢◌, ◌⊎◌, inl, inr, ◌+◌, ◌<◌, ◌≤◌, ℕ, zero, suc, Bool, true, false, not, ◌||◌, ◌==◌, nat_lt, cond, List, [], ◌∷◌, ◌++◌, length, get_or, Option, Some, None, refl, sym, ap, ◌∙◌, subst, arith, add-one, length-append}
-use Rattle.std.proofs.lemmas.Bool.Decides.{eqb_tells, nat_tests}
+use Rattle.std.proofs.Common.{◌≡◌, ◌⊎◌, inl, inr, ◌+◌, ◌<◌, ◌≤◌, ℕ, zero, suc, Bool, true, false, not, ◌||◌, ◌==◌, nat_lt, cond, List, [], ◌∷◌, ◌++◌, length, get_or, Option, Some, None, refl, sym, ap, ◌∙◌, subst, arith, add-one, length-append}
 use Rattle.std.proofs.lemmas.List.{get_or_append_left, get_or_push, get_or_past}
 use Rattle.wy_assign.specs.Paths.{Event, Uses, Sets, Unsets}
 use Rattle.wy_assign.specs.Assigned.{unset_behind}
-use Rattle.wy_assign.specs.Marks.{Marks, has, nowhere, all_set, none_set, put_bit, put, assigned, declared, either_bits, longer, joined}
-use Rattle.wy_assign.proofs.EventLemmas.{either, never, behind}
-
--- cases by whether two variables are one
-pub by_same : (x y : ℕ) (P : Bool → Type 0) → (x ≡ y → P true) → (x ≢ y → P false) → P (x == y)
-by_same x y P f g = either (λ (t : ((x == y) ≡ true) × (x ≡ y)). subst P (sym t.0) (f t.1)) (λ (t : ((x == y) ≡ false) × (x ≢ y)). subst P (sym t.0) (g t.1)) (eqb_tells x y)
-
--- cases by a truth value
-pub by_truth : (b : Bool) (P : Bool → Type 0) → (b ≡ true → P true) → (b ≡ false → P false) → P b
-by_truth true P f g = f refl
-by_truth false P f g = g refl
+use Rattle.wy_assign.specs.Marks.{Marks, has, nowhere, all_set, put_bit, put, assigned, declared, either_bits, longer, joined}
+use Rattle.wy_assign.proofs.EventLemmas.{behind}
+use Rattle.wy_lemmas.proofs.Choices.{or_none as or_false, or_cases, at_or_past, lt_false, lt_true, false_true as never, by_truth, either, or_either as or_true, by_same}
 
 put_same : (bits : List Bool) (x : ℕ) (b o : Bool) → get_or (put_bit bits x b o) x o ≡ b
 put_same [] zero b o = refl
@@ -57,9 +48,6 @@ sane_nowhere (Some x) h = never h
 
 pub sane_all : Sane all_set
 sane_all w h = refl
-
-pub sane_none : Sane none_set
-sane_none w h = refl
 
 pub holds-nowhere : (w : Option ℕ) → holds w nowhere ≡ false
 holds-nowhere None = refl
@@ -115,20 +103,11 @@ either_at a b (suc n) x d h = by_same x n (λ t. (x == n) ≡ t → get_or (eith
     (λ ne _. let l = length-either a b n in let lt : x < length (either_bits a b n) = omega arith in
     get_or_append_left (either_bits a b n) ((has a n || has b n) ∷ []) d x lt ∙ either_at a b n x d (omega arith)) refl
 
-pub lt_true : (a b : ℕ) → nat_lt a b ≡ true → a < b
-lt_true a b h = first_of (grind (arith, nat_tests), search arith)
-
-pub lt_false : (a b : ℕ) → nat_lt a b ≡ false → b ≤ a
-lt_false a b h = first_of (grind (arith, nat_tests), search arith)
-
 longer_left : (n m : ℕ) → n ≤ longer n m
 longer_left n m = by_truth (nat_lt n m) (λ t. nat_lt n m ≡ t → n ≤ cond t m n) (λ _ h. let lt = lt_true n m h in omega arith) (λ _ _. omega arith) refl
 
 longer_right : (n m : ℕ) → m ≤ longer n m
 longer_right n m = by_truth (nat_lt n m) (λ t. nat_lt n m ≡ t → m ≤ cond t m n) (λ _ _. omega arith) (λ _ h. lt_false n m h) refl
-
-pub at_or_past : (x n : ℕ) → (x < n) ⊎ (n ≤ x)
-at_or_past x n = by_truth (nat_lt x n) (λ t. nat_lt x n ≡ t → (x < n) ⊎ (n ≤ x)) (λ _ e. inl (lt_true x n e)) (λ _ e. inr (lt_false x n e)) refl
 
 abbrev both : Marks → Marks → Marks
 both a b = record { reached = true; others = a.others || b.others; bits = either_bits a b (longer (length a.bits) (length b.bits)) }
@@ -147,10 +126,6 @@ has-both a b x =
     ∙ sym (ap (λ p. p || has b x) (get_or_past a.bits x a.others la) ∙ ap (λ p. a.others || p) (get_or_past b.bits x b.others lb)))
     (at_or_past x n)
 
-or_false : (b : Bool) → (b || false) ≡ b
-or_false true = refl
-or_false false = refl
-
 pub holds-joined : (w : Option ℕ) (a b : Marks) → Sane a → Sane b → holds w (joined a b) ≡ (holds w a || holds w b)
 holds-joined w a b sa sb = by_truth b.reached (λ t. b.reached ≡ t → holds w (cond t (cond a.reached (both a b) b) a) ≡ (holds w a || holds w b))
     (λ _ rb. by_truth a.reached (λ t. a.reached ≡ t → holds w (cond t (both a b) b) ≡ (holds w a || holds w b))
@@ -160,21 +135,6 @@ holds-joined w a b sa sb = by_truth b.reached (λ t. b.reached ≡ t → holds w
     met : (v : Option ℕ) → a.reached ≡ true → holds v (both a b) ≡ (holds v a || holds v b)
     met None ra = sym (ap (λ p. p || b.reached) ra)
     met (Some x) ra = has-both a b x
-
-or_left : (a b : Bool) → a ≡ true → (a || b) ≡ true
-or_left true b e = refl
-or_left false b e = never e
-
-or_right : (a b : Bool) → b ≡ true → (a || b) ≡ true
-or_right true b e = refl
-or_right false b e = e
-
-pub or_cases : (a b : Bool) → (a || b) ≡ true → (a ≡ true) ⊎ (b ≡ true)
-or_cases true b e = inl refl
-or_cases false b e = inr e
-
-pub or_true : (a b : Bool) → (a ≡ true) ⊎ (b ≡ true) → (a || b) ≡ true
-or_true a b e = either (or_left a b) (or_right a b) e
 
 pub joined_of : (w : Option ℕ) (a b : Marks) → Sane a → Sane b → holds w (joined a b) ≡ true → (holds w a ≡ true) ⊎ (holds w b ≡ true)
 joined_of w a b sa sb h = or_cases (holds w a) (holds w b) (sym (holds-joined w a b sa sb) ∙ h)

@@ -10,14 +10,14 @@ use Rattle.wy_assign.specs.Faults.{clauses_faults, faults_all, entry, alias_faul
 use Rattle.wy_assign.specs.declared.flow.Flow.{Flow}
 use Rattle.wy_assign.specs.declared.fault.AssignFault.{AssignFault}
 use Rattle.wy_assign.specs.declared.fault.AssignFault.TheVariants.{Unset, NoReturn, NoMemory}
-use Rattle.wy_assign.proofs.EventLemmas.{either, never}
-use Rattle.wy_assign.proofs.MarkLemmas.{by_truth, lt_true, lt_false, holds, Sane, sane_none, has-assigned, holds-assigned, or_cases, or_true}
+use Rattle.wy_assign.proofs.MarkLemmas.{holds, Sane, has-assigned, holds-assigned}
 use Rattle.wy_assign.proofs.FlowLemmas.{Comes, Tells, Sound, sound_from}
 use Rattle.wy_assign.proofs.TellsLemmas.{tells_all}
 use Rattle.wy_assign.proofs.LeastLemmas.{Least, least_same, least_two, least_one, least_none, least_where}
 use Rattle.wy_assign.proofs.UseLemmas.{same_start, fault_clauses}
 use Rattle.wy_assign.proofs.BadLemmas.{Bad}
 use Rattle.wy_assign.proofs.FaultLemmas.{fault_all}
+use Rattle.wy_lemmas.proofs.Choices.{and-left as and_left, and-right as and_right, or_cases, both_true as and_both, lt_false, lt_true, false_true as never, by_truth, either, or_either as or_true}
 
 -- ---- where a declaration begins
 
@@ -116,18 +116,6 @@ ends_by r p Leaves c n = never (sym n)
 
 ends_to : (r : tree.Routine ℕ) → Ends r.body → is_open (flow_all r.body (from_here (entry r))) ≡ true
 ends_to r e = ends_by r e.0 e.1 e.2 e.3
-
-and_left : (a b : Bool) → (a && b) ≡ true → a ≡ true
-and_left true b e = refl
-and_left false b e = never e
-
-and_right : (a b : Bool) → (a && b) ≡ true → b ≡ true
-and_right true b e = e
-and_right false b e = never e
-
-and_both : (a b : Bool) → a ≡ true → b ≡ true → (a && b) ≡ true
-and_both true b e f = f
-and_both false b e f = never e
 
 least_open : (d : Decl ℕ) (P : ℕ → Type 0) (o : Option ℕ) → Least P o → Least (λ k. P k ⊎ OpenIn d k) (decl_open d o)
 least_open (AliasDecl a) P o l = least_none P (λ k. ⊥) o (λ k h. h) l

@@ -7,10 +7,10 @@ use Rattle.wy_assign.specs.Paths.{Event, Uses, Sets, Unsets, Through, Nothing, O
 use Rattle.wy_assign.specs.Assigned.{unset_behind, UsesUnset, SomeUse}
 use Rattle.wy_assign.specs.Marks.{Marks, has}
 use Rattle.wy_assign.specs.Faults.{noted_where, is_in, may_be_unset, expr_faults, exprs_faults, fields_faults, clauses_faults, option_faults, step_faults, steps_faults}
-use Rattle.wy_assign.proofs.EventLemmas.{either, never, cond_more, behind, uses_more, uses_split, uses_left, uses_right, Quiet, behind_quiet, uses_quiet, behind_reads}
+use Rattle.wy_assign.proofs.EventLemmas.{behind, uses_more, uses_split, uses_left, uses_right, Quiet, behind_quiet, uses_quiet, behind_reads}
 use Rattle.wy_assign.proofs.CalmLemmas.{Calm, calm_expr, calm_exprs, calm_fields, calm_maybe, calm_then, calm_times, then_quiet, set_quiet, calm_clauses, calm_step, calm_steps}
-use Rattle.wy_assign.proofs.MarkLemmas.{by_same}
 use Rattle.wy_assign.proofs.LeastLemmas.{Least, least_two, least_one, least_none, least_where}
+use Rattle.wy_lemmas.proofs.Choices.{cond_more, false_true as never, given, either}
 
 pub same_start : (A : Through) (u v : ℕ → Bool) (k : ℕ) → ((x : ℕ) → u x ≡ v x) → SomeUse A u k → SomeUse A v k
 same_start A u v k e s = (s.0, s.1, s.2, subst (λ b. UsesUnset s.0 k b s.1) (e s.0) s.3)
@@ -65,10 +65,6 @@ maybe_to false A u k s = s
 
 abbrev Turn : ℕ → Through → Through
 Turn y A = Then (One (Sets y)) A
-
--- what a turn of a quantifier begins with
-abbrev given : (ℕ → Bool) → ℕ → ℕ → Bool
-given u y x = cond (x == y) false (u x)
 
 times_use : (n x k y : ℕ) (v : Bool) (A : Through) → ((p : List Event) → A p → Quiet p) → (p : List Event) → Times n (Turn y A) p → UsesUnset x k v p
     → (q : List Event) × A q × UsesUnset x k (cond (x == y) false v) q

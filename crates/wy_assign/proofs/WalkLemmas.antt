@@ -1,23 +1,19 @@
 -- An `if` and a loop, where their parts are read one behind the other.
 use Rattle.std.proofs.Common.{◌≡◌, ◌∙◌, ℕ, List, ap, sym, rules}
 use Rattle.wy_core.specs.CoreTree as tree
-use Rattle.wy_core.specs.CoreSeen.{seen_expr, seen_exprs, seen_block, seen_stmt}
+use Rattle.wy_core.specs.CoreSeen.{seen_expr, seen_block, seen_stmt}
 use Rattle.wy_core.specs.declared.expressions.Expr.{Expr}
 use Rattle.wy_core.specs.declared.statements.Stmt as s
 use Rattle.wy_core.specs.declared.statements.Stmt.{Stmt}
 use Rattle.wy_core.specs.declared.statements.StmtKind as kind
 use Rattle.wy_assign.specs.Marks.{Marks}
-use Rattle.wy_assign.specs.Flows.{alone, otherwise, rejoined, looped, flow, flow_all}
-use Rattle.wy_assign.specs.Faults.{walked, walked_all, tested, begun_else, ended_if, begun_loop}
+use Rattle.wy_assign.specs.Flows.{otherwise, rejoined, flow, flow_all}
+use Rattle.wy_assign.specs.Faults.{walked, walked_all, tested, begun_else, ended_if}
 use Rattle.wy_assign.specs.declared.flow.Flow.{Flow}
 use Rattle.wy_assign.specs.declared.flow.Walk.{Walk}
 
 seen_if : (x : Stmt) (e : Expr) (a b : List Stmt) → x.kind ≡ kind.If e a b → seen_stmt x ≡ tree.IfStmt x.at (seen_expr e) (seen_block a) (seen_block b)
 seen_if x e a b is = search (rules, s.the_lemmas)
-
-seen_while : (x : Stmt) (e : Expr) (invariants : List Expr) (body : List Stmt) → x.kind ≡ kind.While e invariants body
-    → seen_stmt x ≡ tree.WhileStmt x.at (seen_expr e) (seen_exprs invariants) (seen_block body)
-seen_while x e invariants body is = search (rules, s.the_lemmas)
 
 pub if_flow : (x : Stmt) (f : Flow) (e : Expr) (a b : List Stmt) → x.kind ≡ kind.If e a b → (m : Marks) → m ≡ f.here → (a2 : List Stmt) → a2 ≡ a → (g : Flow) → g ≡ flow_all (seen_block a2) f
     → (n : Marks) → n ≡ g.here → (st : Flow) → st ≡ otherwise m g → (b2 : List Stmt) → b2 ≡ b → (h : Flow) → h ≡ flow_all (seen_block b2) st
@@ -47,18 +43,3 @@ if_walk x w e e2 a b is e_is m m_is v v_is a2 a_is g g_is n n_is st st_is b2 b_i
     ∙ ap (λ (z : Walk). ended_if (walked_all (seen_block a) z).flow.here (walked_all (seen_block b) (begun_else w.flow.here (walked_all (seen_block a) z)))) v_is
     ∙ ap (λ (z : Expr). ended_if (walked_all (seen_block a) (tested (seen_expr z) w)).flow.here (walked_all (seen_block b) (begun_else w.flow.here (walked_all (seen_block a) (tested (seen_expr z) w))))) e_is
     ∙ sym (ap (λ (y : tree.Stmt ℕ). walked y w) (seen_if x e a b is))
-
-abbrev pub behind_loop : Flow → Walk → Walk
-behind_loop f inside = record { flow = f; found = inside.found }
-
-pub while_walk : (x : Stmt) (w : Walk) (e e2 : Expr) (invariants i2 : List Expr) (body b2 : List Stmt) → x.kind ≡ kind.While e invariants body → e2 ≡ e → i2 ≡ invariants → b2 ≡ body
-    → (v : Walk) → v ≡ begun_loop (seen_expr e2) (seen_exprs i2) (seen_block b2) w → (f : Flow) → f ≡ looped w.flow (flow_all (seen_block b2) alone) → (h : Walk) → h ≡ walked_all (seen_block b2) v
-    → behind_loop f h ≡ walked (seen_stmt x) w
-while_walk x w e e2 invariants i2 body b2 is e_is i_is b_is v v_is f f_is h h_is =
-    ap (λ (z : Flow). behind_loop z h) f_is
-    ∙ ap (λ (z : Walk). behind_loop (looped w.flow (flow_all (seen_block b2) alone)) z) h_is
-    ∙ ap (λ (z : Walk). behind_loop (looped w.flow (flow_all (seen_block b2) alone)) (walked_all (seen_block b2) z)) v_is
-    ∙ ap (λ (z : List Stmt). behind_loop (looped w.flow (flow_all (seen_block z) alone)) (walked_all (seen_block z) (begun_loop (seen_expr e2) (seen_exprs i2) (seen_block z) w))) b_is
-    ∙ ap (λ (z : List Expr). behind_loop (looped w.flow (flow_all (seen_block body) alone)) (walked_all (seen_block body) (begun_loop (seen_expr e2) (seen_exprs z) (seen_block body) w))) i_is
-    ∙ ap (λ (z : Expr). behind_loop (looped w.flow (flow_all (seen_block body) alone)) (walked_all (seen_block body) (begun_loop (seen_expr z) (seen_exprs invariants) (seen_block body) w))) e_is
-    ∙ sym (ap (λ (y : tree.Stmt ℕ). walked y w) (seen_while x e invariants body is))

@@ -5,3 +5,5 @@ pub mod Assigned
 pub mod Marks
 pub mod Flows
 pub mod Faults
+-- passed on to the crates above
+pub use Rattle.wy_flow_spec.specs as wy_flow_spec

@@ -17,6 +17,7 @@ mod marks;
 mod program;
 mod statements;
 mod transfer;
+pub mod typed;
 mod uses;
 
 pub use fault::AssignFault;

@@ -14,7 +14,6 @@ use Rattle.wy_ast.specs.declared.statements.StepKind.TheVariants as step
 use Rattle.wy_ast.specs.declared.declarations.Param.{Param}
 use Rattle.wy_ast.specs.declared.declarations.Decl.{Decl}
 use Rattle.wy_ast.specs.declared.declarations.Decl.TheVariants as decl
-use Rattle.wy_ast.specs.declared.declarations.Program.{Program}
 
 abbrev pub ty_kind_layer : TyKind-F (ℕ → tree.Ty) tree.Ty → ℕ → tree.Ty
 ty_kind_layer TyKind-F.Null at = tree.NullTy at
@@ -161,7 +160,3 @@ seen_decl (decl.Method m) = tree.MethodDecl (record {
 })
 seen_decl (decl.Property p) = tree.PropertyDecl (record
     { at = p.at; name = p.name; params = map seen_param p.params; clauses = seen_exprs p.clauses })
-
--- the source file
-abbrev pub seen_program : Program → tree.Program
-seen_program p = record { imports = p.imports; decls = map seen_decl p.decls }

@@ -1,8 +1,10 @@
 -- A conjunct whose digest isn't noted isn't there, and each that is there has a place.
-use Rattle.std.proofs.Common.{◌≡◌, ℕ, zero, suc, List, [], ◌∷◌, ◌++◌, Bool, true, false, cond, ◌||◌, Option, Some, None, refl, sym, ap, subst, ◌+◌, ◌<◌, length, take, get_or, Result, Ok, Err, OnOk}
+use Rattle.std.proofs.Common.{◌≡◌, ℕ, zero, suc, List, [], ◌∷◌, ◌++◌, Bool, true, false, ◌||◌, Option, Some, None, refl, ap, subst, ◌+◌, ◌<◌, length, take, get_or}
 use Rattle.std.proofs.lemmas.List.{take_more}
 use Rattle.std.specs.Prelude.{slice_get, is_some, nat_eq}
 use Rattle.std.specs.Map.{lookup}
+use Rattle.wy_lemmas.proofs.Choices.{both_parts as both}
+use Rattle.wy_lemmas.proofs.Options.{some_is}
 use Rattle.wy_types.specs.declared.conjuncts.Conjunct.{Conjunct}
 use Rattle.wy_types.specs.Claims.{EachOf}
 use Rattle.wy_types.specs.Conjuncts.{same_term}
@@ -10,7 +12,6 @@ use Rattle.wy_types.specs.Same as same
 use Rattle.wy_types.specs.declared.conjuncts.Signed.{Signed}
 use Rattle.wy_types.specs.NodeLaws.{same_terms_are, same_conjunct_is, same_term_is, node_self}
 use Rattle.wy_types.specs.declared.table.Node.TheVariants as node
-use Rattle.wy_types.proofs.TruthLemmas.{both}
 use Rattle.wy_types.proofs.ClaimLemmas.{each_map, each_append}
 use Rattle.wy_canon.specs.Digests.{conjunct_digest}
 use Rattle.wy_canon.specs.Numbered.{IsNoted, AreNoted}
@@ -20,9 +21,6 @@ same_terms_is xs ys e = same_terms_are same_term same_term_is xs ys e
 
 pub same_conjunct_number : (x y : Conjunct ℕ) → same.same_conjunct same_term x y ≡ true → x ≡ y
 same_conjunct_number x y e = same_conjunct_is same_term same_term_is x y e
-
-some_is : {X : Type 0} (x y : X) → Some x ≡ Some y → x ≡ y
-some_is x y e = cc
 
 each_push : {X : Type 0} (P : X → Type 0) (xs : List X) (x : X) → EachOf P xs → P x → EachOf P (xs ++ x ∷ [])
 each_push P xs x h p = each_append P xs (x ∷ []) h (p, tt)
@@ -68,18 +66,3 @@ pub noted_turn : (es fs : List (ℕ × ℕ)) (cs : List (Conjunct ℕ)) (i : ℕ
 noted_turn es fs cs i item d f lt at is h n =
     subst (λ (t : List (Conjunct ℕ)). AreNoted fs t) (last_taken cs i item lt at)
     (noted_more es fs (take i cs) item f h (subst (λ (k : ℕ). IsNoted fs k) is n))
-
--- where what is done ends well
-pub on_ok : {X E : Type 0} (r : Result X E) (P Q : Type 0) → (P → Q) → OnOk r P → OnOk r Q
-on_ok (Ok x) P Q f h = f h
-on_ok (Err e) P Q f h = h
-
--- ---- a place more
-
--- what an entry for a digest changes
-pub noted_keeps : (es fs : List (ℕ × ℕ)) (k w : ℕ) → ((q : ℕ) → lookup (nat_eq q) fs ≡ cond (nat_eq k q) (Some w) (lookup (nat_eq q) es)) → (d : ℕ) → IsNoted es d → IsNoted fs d
-noted_keeps es fs k w f d h = subst (λ (o : Option ℕ). is_some o ≡ true) (sym (f d)) (by (nat_eq k d) h)
-  where
-    by : (b : Bool) → is_some (lookup (nat_eq d) es) ≡ true → is_some (cond b (Some w) (lookup (nat_eq d) es)) ≡ true
-    by true e = refl
-    by false e = e

@@ -2,7 +2,7 @@
 use Rattle.std.proofs.Common.{◌≡◌, ℕ, zero, suc, ◌<◌, ◌≤◌, List, [], ◌∷◌, ◌++◌, length, take, drop, codes, Option, Some, None, refl, sym, ap, ◌∙◌, subst, arith, lt_of_not-le}
 use native.Mathlib.Decide.{dec_le}
 use Rattle.std.proofs.lemmas.List.{take-append-drop}
-use Rattle.wy_scan.specs.Front.{IsBehind, NotBehind}
+use Rattle.wy_data.specs.scan.Front.{IsBehind, NotBehind}
 use Rattle.wy_cert.specs.Arguments.{IsCut, NoCut, IsPieceAt}
 
 -- ---- one piece

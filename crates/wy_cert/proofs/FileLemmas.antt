@@ -5,10 +5,11 @@ use Rattle.std.specs.Ordering.{nat_cmp, is_eq}
 use Rattle.std.specs.declared.cmp.Ordering.TheVariants.{Less, Equal, Greater}
 use Rattle.std.specs.BTreeSet.{BTreeSet, contains}
 use Rattle.std.proofs.lemmas.Bool.Decides.{nat_tests}
-use Rattle.wy_scan.specs.Front.{IsBehind, NotBehind}
-use Rattle.wy_scan.proofs.RunLemmas.{true_false}
+use Rattle.wy_term_text.proofs.wy_lemmas_proofs.Choices.{unlike as true_false}
+use Rattle.wy_term_text.proofs.wy_lemmas_proofs.Lists.{append_cancel, map_pushed as map_more}
+use Rattle.wy_data.specs.scan.Front.{IsBehind, NotBehind}
 use Rattle.wy_cert.specs.declared.fault.CertFault.{CertFault}
-use Rattle.wy_cert.specs.declared.fault.CertFault.TheVariants.{BadHeader, BadStep, Truncated, TwiceCond, NoSuchCond}
+use Rattle.wy_cert.specs.declared.fault.CertFault.TheVariants.{BadStep, Truncated, TwiceCond, NoSuchCond}
 use Rattle.wy_cert.specs.Only.{IsTheOne, HasNone, AreSame}
 use Rattle.wy_cert.specs.Steps.{Written, Certificates}
 use Rattle.wy_cert.specs.Numbers.{IsPlaceAt, NoLastPlace}
@@ -16,7 +17,6 @@ use Rattle.wy_cert.specs.File.{IsLine, NoLine, Tree, ReadsTree, IsCondition, is_
 use Rattle.wy_cert.proofs.OneLemmas.{the_same}
 use Rattle.wy_cert.proofs.FirstLine.{one_line, no_line}
 use Rattle.wy_cert.proofs.NumberLemmas.{one_place, length_none}
-use Rattle.wy_cert.proofs.VerbLemmas.{append_cancel}
 
 -- ---- a line that opens a certificate
 
@@ -248,10 +248,6 @@ pub seen_more : (old new : BTreeSet ℕ) (cs : Certificates) (k : ℕ) (s : List
     → (q : ℕ) → contains nat_cmp new q ≡ is_listed (cs ++ (k, s) ∷ []) q
 seen_more old new cs k s more same q = more q ∙ ap (λ b. cond b true (contains nat_cmp old q)) (at_same k q) ∙ ap (λ b. cond (k == q) true b) (same q) ∙ sym (listed_push cs k s q)
 
-pub map_more : {A B : Type 0} (f : A → B) (xs : List A) (x : A) → map f (xs ++ x ∷ []) ≡ map f xs ++ f x ∷ []
-map_more f [] x = refl
-map_more f (y ∷ xs) x = ap (λ zs. f y ∷ zs) (map_more f xs x)
-
 pub mapped : {A B : Type 0} (f : A → B) (xs more : List A) (x : A) → more ≡ xs ++ x ∷ [] → map f more ≡ map f xs ++ f x ∷ []
 mapped f xs more x is = ap (map f) is ∙ map_more f xs x
 
@@ -279,11 +275,3 @@ file_second conds bytes rest here = record { to = λ out h. second rest here h; 
     by out (first r there h) = absurd (headers_apart bytes r rest there here)
     by out (second r there h) = subst (λ i. ReadsCerts true conds [] 2 i out) (append_cancel (codes "wycert 2\n") r rest (sym there.is ∙ here.is)) h
     by out (no_header one two e) = absurd (two rest here)
-
-pub file_no_header : (conds : ℕ) (bytes : List ℕ) → NotBehind (codes "wycert 1\n") bytes → NotBehind (codes "wycert 2\n") bytes → IsTheOne (ReadsFile conds bytes) (Err (BadHeader 1))
-file_no_header conds bytes one two = record { holds = no_header one two refl; only = λ out h. by out h }
-  where
-    by : (out : Out) → ReadsFile conds bytes out → out ≡ Err (BadHeader 1)
-    by out (first r there h) = absurd (one r there)
-    by out (second r there h) = absurd (two r there)
-    by out (no_header a b e) = e

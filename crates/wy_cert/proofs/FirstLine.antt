@@ -3,9 +3,10 @@ use Rattle.std.proofs.Common.{◌≡◌, ℕ, zero, suc, ◌+◌, ◌<◌, ◌�
 use Rattle.std.specs.Prelude.{not, ◌==◌}
 use Rattle.std.proofs.lemmas.List.{take-append-drop, take_all}
 use Rattle.std.proofs.lemmas.List.{length-append}
-use Rattle.wy_scan.specs.Front.{AllPass}
-use Rattle.wy_scan.proofs.RunLemmas.{run_same, true_false}
-use Rattle.wy_scan.proofs.FrontLemmas.{pass_more}
+use Rattle.wy_term_text.proofs.wy_lemmas_proofs.Choices.{unlike as true_false}
+use Rattle.wy_data.specs.scan.Front.{AllPass}
+use Rattle.wy_data.proofs.scan_lemmas.RunLemmas.{run_same}
+use Rattle.wy_data.proofs.scan_lemmas.FrontLemmas.{pass_more}
 use Rattle.wy_cert.specs.File.{is_inside, IsLine, NoLine}
 
 -- ---- one line

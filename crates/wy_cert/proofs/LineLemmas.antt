@@ -1,6 +1,6 @@
 -- A line is a word and what follows it.
 use Rattle.std.proofs.Common.{ℕ, List, Bool, subst}
-use Rattle.wy_scan.specs.Front.{IsBehind, NotBehind}
+use Rattle.wy_data.specs.scan.Front.{IsBehind, NotBehind}
 use Rattle.wy_cert.specs.declared.verb.Verb.{Verb}
 use Rattle.wy_cert.specs.Only.{HasNone, AreSame}
 use Rattle.wy_cert.specs.Steps.{Written}

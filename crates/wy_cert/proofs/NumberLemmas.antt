@@ -1,8 +1,8 @@
 -- Numbers of a line: there is one, or none.
 use Rattle.std.proofs.Common.{◌≡◌, ℕ, ◌<◌, ◌-◌, ◌^◌, List, [], ◌∷◌, length, codes, refl, sym, ap, ◌∙◌, subst, arith}
-use Rattle.wy_scan.specs.Front.{IsBehind, NotBehind}
-use Rattle.wy_scan.specs.Numbers.{IsNaturalAt, NoNatural}
-use Rattle.wy_scan.proofs.OneReading.{OneNatural, one_natural}
+use Rattle.wy_data.specs.scan.Front.{IsBehind, NotBehind}
+use Rattle.wy_data.specs.scan.Numbers.{IsNaturalAt, NoNatural}
+use Rattle.wy_data.proofs.scan_lemmas.OneReading.{OneNatural, one_natural}
 use Rattle.wy_cert.specs.Numbers.{IsPlaceAt, NoPlace, NoSpacedPlace, NoLastPlace, IsMultiplierAt, NoMultiplier, IsPairAt, NoPair}
 
 pub one_place : (text : List ℕ) (m n : ℕ) (r s : List ℕ) → IsPlaceAt text m r → IsPlaceAt text n s → OneNatural m n r s

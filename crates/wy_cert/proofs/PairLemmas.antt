@@ -5,11 +5,6 @@ use Rattle.wy_cert.specs.Only.{IsTheOne, HasNone, IsBehind, GoesOn}
 use Rattle.wy_cert.specs.Numbers.{IsPairAt, NoPair, ArePairs}
 use Rattle.wy_cert.proofs.NumberLemmas.{one_pair, length_none}
 
--- ---- for each kind of list
-
-pub goes_start : {X : Type 0} (P : List X → Type 0) → GoesOn [] P P
-goes_start P = record { to = λ others h. h; back = λ all h. record { others = all; is = refl; holds = h } }
-
 -- ---- pairs
 
 pub pairs_to : (text rest more : List ℕ) (done ps : List (ℕ × ℕ)) (m i : ℕ) → IsPairAt rest m i more → GoesOn done (ArePairs rest) (ArePairs text) → ArePairs more ps → ArePairs text ((done ++ (m, i) ∷ []) ++ ps)

@@ -14,9 +14,6 @@ use Rattle.wy_cert.proofs.OneLemmas.{the_same}
 use Rattle.wy_cert.proofs.FirstLine.{one_line, no_line}
 use Rattle.wy_cert.proofs.ArgumentLemmas.{map_kept}
 
-pub reads_same : {X : Type 0} (P : X → Type 0) → AreSame P P
-reads_same P = record { to = λ x h. h; back = λ x h. h }
-
 -- ---- the ends
 
 abbrev whole : List Written → ℕ → List ℕ → Tree

@@ -1,7 +1,8 @@
 -- A line begins with one word of a step.
 use Rattle.std.proofs.Common.{◌≡◌, ℕ, ◌+◌, ◌*◌, cond, List, [], ◌∷◌, ◌++◌, codes, refl, sym, ap, ◌∙◌, subst}
 use Rattle.std.specs.Prelude.{◌==◌}
-use Rattle.wy_scan.specs.Front.{IsBehind, NotBehind}
+use Rattle.wy_term_text.proofs.wy_lemmas_proofs.Lists.{append_cancel}
+use Rattle.wy_data.specs.scan.Front.{IsBehind, NotBehind}
 use Rattle.wy_cert.specs.declared.verb.Verb.{Verb}
 use Rattle.wy_cert.specs.declared.verb.Verb.TheVariants as verb
 use Rattle.wy_cert.specs.Lines.{word_of}
@@ -70,10 +71,6 @@ verb_from-number verb.Prod = refl
 pub record OneVerb (v w : Verb) (t u : List ℕ) : Type 0 where
   pub kind : v ≡ w
   pub text : t ≡ u
-
-pub append_cancel : (f r s : List ℕ) → f ++ r ≡ f ++ s → r ≡ s
-append_cancel [] r s e = e
-append_cancel (a ∷ f) r s e = append_cancel f r s (cc)
 
 pub one_verb : (line : List ℕ) (v w : Verb) (t u : List ℕ) → IsBehind (word_of v) line t → IsBehind (word_of w) line u → OneVerb v w t u
 one_verb line v w t u a b =

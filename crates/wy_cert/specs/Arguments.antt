@@ -1,9 +1,9 @@
 -- Terms of a line, with a semicolon between spaces between two.
 use Rattle.std.specs.Prelude.{◌≡◌, ℕ, ◌<◌, ◌≤◌, List, [], ◌∷◌, ◌++◌, Bool, true, false, codes, length, drop, Option, Some, None, ◌⊎◌}
-use Rattle.wy_scan.specs.Front.{NotBehind}
+use Rattle.wy_data.specs.scan.Front.{NotBehind}
 use Rattle.wy_term.specs.Term.{Term}
 use Rattle.wy_term.specs.Sorts.{int_sort, val_sort, formula_sort}
-use Rattle.wy_spell.specs.Made.{IsSpelled, SpellsNoTerm}
+use Rattle.wy_term_text.specs.spell.Made.{IsSpelled, SpellsNoTerm}
 
 -- the bytes before the first ` ; `, and those behind it
 pub record IsCut (text front rest : List ℕ) : Type 0 where

@@ -1,6 +1,6 @@
 -- What a file of certificates is read as: the certificates, or the first fault and its line.
 use Rattle.std.specs.Prelude.{◌≡◌, ◌≢◌, ℕ, ◌+◌, ◌-◌, ◌<◌, ◌≤◌, ◌==◌, ◌||◌, List, [], ◌∷◌, ◌++◌, Bool, true, false, not, codes, length, Result, Ok, Err}
-use Rattle.wy_scan.specs.Front.{IsBehind, NotBehind, IsRun, AllPass}
+use Rattle.wy_data.specs.scan.Front.{IsBehind, NotBehind, IsRun, AllPass}
 use denote.Ref.{Bor}
 use Rattle.wy_cert.specs.declared.step.Cert.{Cert}
 use Rattle.wy_cert.specs.declared.fault.CertFault.{CertFault}

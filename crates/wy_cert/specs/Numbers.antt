@@ -1,6 +1,6 @@
 -- Numbers of a line, and pairs of a multiplier and a literal.
 use Rattle.std.specs.Prelude.{◌≡◌, ℕ, ◌<◌, ◌^◌, List, [], ◌∷◌}
-use Rattle.wy_scan.specs.Numbers.{IsNaturalAt}
+use Rattle.wy_data.specs.scan.Numbers.{IsNaturalAt}
 
 -- the text begins with the number of a literal or of a condition, which is from 1 to 2^32 - 1, and this follows
 pub record IsPlaceAt (text : List ℕ) (n : ℕ) (rest : List ℕ) : Type 0 where

@@ -4,9 +4,9 @@ ghost use Rattle.wy_term.specs.Nodes.{tree_at};
 ghost use Rattle.wy_cert.specs.Only.{IsTheOne, HasNone};
 ghost use Rattle.wy_cert.specs.Arguments.{IsCut, NoCut, IsTerm, IsArgument, AreArguments};
 
-use wy_scan::behind;
-use wy_spell::{read_formula, read_term};
+use wy_data::scan::behind;
 use wy_term::{NoMemory, Terms};
+use wy_term_text::spell::{read_formula, read_term};
 
 // The bytes before the first ` ; `, and those behind it if there is one.
 #[tactic(auto, using(crate::proofs::CutLemmas::cut_steps))]

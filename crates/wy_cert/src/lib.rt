@@ -14,6 +14,7 @@ mod read;
 mod step;
 mod tree;
 mod verb;
+pub mod writing;
 
 pub use fault::CertFault;
 pub use read::read_certs;

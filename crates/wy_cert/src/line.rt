@@ -11,9 +11,9 @@ use crate::numbers::{last_place, multiplier, pairs, place, spaced_place};
 use crate::step::Step;
 use crate::verb::{Verb, verb_of};
 use std::alloc::Global;
-use wy_scan::behind;
-use wy_spell::read_formula;
+use wy_data::scan::behind;
 use wy_term::{NoMemory, Terms};
+use wy_term_text::spell::read_formula;
 
 /// The step that a line spells, without the line's end; `products` says whether `prod` may stand.
 #[tactic(auto, using(crate::proofs::LineLemmas::step_steps))]

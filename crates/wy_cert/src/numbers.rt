@@ -4,7 +4,7 @@ ghost use Rattle.wy_cert.specs.Only.{IsTheOne, HasNone};
 ghost use Rattle.wy_cert.specs.Numbers.{IsPlaceAt, NoPlace, NoSpacedPlace, NoLastPlace, IsMultiplierAt, NoMultiplier, IsPairAt, NoPair, ArePairs};
 
 use std::alloc::Global;
-use wy_scan::{behind, natural};
+use wy_data::scan::{behind, natural};
 use wy_term::NoMemory;
 
 /// The number of a literal or of a condition that stands first, and what follows.

@@ -13,7 +13,7 @@ use crate::tree::{first_line, tree};
 use std::alloc::Global;
 use std::collections::BTreeSet;
 use wy_data::same_bytes;
-use wy_scan::behind;
+use wy_data::scan::behind;
 use wy_term::NoMemory;
 
 /// The certificates of a file for so many conditions, in time linear in the file beside what making terms takes and

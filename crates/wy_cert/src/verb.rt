@@ -1,9 +1,9 @@
 //! What a line of a step begins with.
 ghost use Rattle.std.specs.Prelude.{MatchOption};
-ghost use Rattle.wy_scan.specs.Front.{IsBehind, NotBehind};
+ghost use Rattle.wy_data.specs.scan.Front.{IsBehind, NotBehind};
 ghost use Rattle.wy_cert.specs.Lines.{word_of};
 
-use wy_scan::behind;
+use wy_data::scan::behind;
 
 /// A kind of step, by the word that its line begins with.
 #[derive(Clone, Copy)]

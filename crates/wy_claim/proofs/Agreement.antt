@@ -1,5 +1,5 @@
 -- What the agreement of a counter with its seats says of one seat and of the counter, and what keeps it.
-use Rattle.std.proofs.Common.{◌≡◌, ◌≢◌, ◌⊎◌, ℕ, zero, suc, ◌+◌, ◌-◌, ◌<◌, ◌≤◌, ◌==◌, ◌||◌, nat_le, Bool, true, false, true≢false, List, [], ◌∷◌, ◌++◌, set, sum_by, refl, sym, ap, ◌∙◌, subst, inl, inr, ⊎_elim, arith, zero-add, leb-true, leb-false}
+use Rattle.std.proofs.Common.{◌≡◌, ◌≢◌, ◌⊎◌, ℕ, zero, suc, ◌+◌, ◌-◌, ◌<◌, ◌≤◌, ◌==◌, nat_le, Bool, true, false, true≢false, List, [], ◌∷◌, ◌++◌, set, sum_by, refl, sym, ap, ◌∙◌, subst, inl, inr, ⊎_elim, arith, zero-add, leb-true, leb-false}
 use Rattle.std.proofs.lemmas.List.Sums.{sum_by-cons, sum_by-append, sum_by_push}
 use Rattle.std.proofs.lemmas.List.Elements.{All-push, All-append}
 use mathlib.Core.Option.{some, some-injective, some-ne-none}
@@ -11,6 +11,7 @@ use Rattle.wy_claim.specs.Claimed.{times, late, IsMetAway, Sits, Claimed}
 use Rattle.wy_claim.specs.Schedule.{first_seat, drawing, rest_of, share_of, gathered, met_away, Reaches, making, splitting, drawing_next, meeting}
 use Rattle.wy_claim.proofs.Sums.{sum_by-set_at, sum_by-le-at}
 use Rattle.wy_claim.proofs.Counts.{one, once_below-suc, once_below-one, once_below-zero, late-suc, late-zero, row_of_ones}
+use Rattle.wy_lemmas.proofs.Choices.{or_false as neither, or_cases as either_one}
 
 -- the seat was met away, or can still be met
 abbrev Placed : Plan → ℕ → SeatState → Type 0
@@ -164,14 +165,6 @@ split_claimed plan counter seats id amount seat claimed there going given left =
           (λ (new : share ≡ other). subst (λ u. Placed plan counter u) new (inr (share_sits plan counter amount seat sits given)))
           (at_snoc (set seats id rest) share other i here);
     }
-
-neither : (a b : Bool) → (a || b) ≡ false → (a ≡ false) × (b ≡ false)
-neither true b none = absurd (true≢false none)
-neither false b none = (refl, none)
-
-either_one : (a b : Bool) → (a || b) ≡ true → (a ≡ true) ⊎ (b ≡ true)
-either_one true b some_one = inl refl
-either_one false b some_one = inr some_one
 
 gathered_sits : (plan : Plan) (counter : ℕ) (seat other : SeatState) → Sits plan counter seat → Sits plan counter other → Sits plan counter (gathered seat other)
 gathered_sits plan counter seat other sits theirs = record {

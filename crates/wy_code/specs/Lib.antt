@@ -1,2 +1,3 @@
 -- how code is written
 pub mod Listing
+pub mod pieces

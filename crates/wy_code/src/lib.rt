@@ -5,12 +5,12 @@
 //! Instr.
 #![tactic(auto)]
 
-mod fault;
 mod instructions;
 mod listing;
+pub mod pieces;
 mod routines;
 
-pub use fault::NoMemory;
 pub use instructions::{Arithmetic, Comparison, Instr, Kind, Scalar, Slot};
 pub use listing::show_code;
 pub use routines::{Code, Routine};
+pub use wy_items::NoMemory;

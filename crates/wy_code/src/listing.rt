@@ -3,10 +3,10 @@ ghost use Rattle.std.specs.Prelude.{◌≡◌, ◌∷◌, ◌++◌, IfOk, OnOk};
 ghost use Rattle.std.specs.Fmt.{decimal, signed_decimal};
 ghost use Rattle.wy_code.specs.Listing as spec;
 
-use crate::fault::NoMemory;
 use crate::instructions::{Arithmetic, Comparison, Instr, Kind, Scalar, Slot};
 use crate::routines::{Code, Routine};
 use std::alloc::Global;
+use wy_items::NoMemory;
 
 /// The text of the code: for each routine a line `routine 0` with its number, and then each of its
 /// instructions on a line behind two spaces, as `  Arith r2 + r0 r1`. An instruction is its name and

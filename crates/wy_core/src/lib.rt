@@ -16,6 +16,8 @@
 mod copies;
 mod declarations;
 mod expressions;
+pub mod formed;
+pub mod same;
 mod statements;
 mod types;
 

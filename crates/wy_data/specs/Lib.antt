@@ -1,2 +1,3 @@
 -- definitions of public contracts
 pub mod Words
+pub mod scan

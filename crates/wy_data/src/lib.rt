@@ -8,6 +8,7 @@
 
 mod bytes;
 mod name;
+pub mod scan;
 mod words;
 
 pub use bytes::Bytes;

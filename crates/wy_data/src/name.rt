@@ -36,14 +36,6 @@ impl Name {
         Name { text }
     }
 
-    /// The text, given back. It takes no memory.
-    pub fn into_string(self) -> String
-        ensures value { string_bytes result ≡ self }
-    {
-        let Name { text } = self;
-        text
-    }
-
     pub fn as_str(&self) -> &str
         ensures value { result.now ≡ self.now }
         ensures utf8 { IsUtf8 self.now }

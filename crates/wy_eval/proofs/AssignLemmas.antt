@@ -1,17 +1,18 @@
 -- Assignments, with a path and without one.
 use Rattle.std.proofs.Common.{◌≡◌, ℕ, true, List, [], ◌∷◌, map, length, Option, Some, None, refl, ap, ◌∙◌}
+use Rattle.wy_eval.proofs.FollowLemmas.{as_any, any_stopped}
 use Rattle.wy_value.specs.Datum.{Datum}
 use Rattle.wy_core.specs.CoreSeen.{seen_step}
 use Rattle.wy_core.specs.CoreTree as tree
 use Rattle.wy_core.specs.declared.statements.Step.{Step}
 use Rattle.wy_sem.specs.Expressions.{Setting, Store, eval, slot}
-use Rattle.wy_sem.specs.Meter.{Meter, Outcome, Done, Fault, More, Spent, Run, ◌>>=◌}
+use Rattle.wy_sem.specs.Meter.{Meter, Outcome, Done, Run, ◌>>=◌}
 use Rattle.wy_sem.specs.Operations as operations
 use Rattle.wy_sem.specs.Operations.{needed, updated}
 use Rattle.wy_sem.specs.Statements.{Exit, Frame, assigned, path_of, stored, type_at}
-use Rattle.wy_eval_expressions.specs.declared.stop.Stop.{Stop}
-use Rattle.wy_eval_expressions.specs.declared.stop.Stop.TheVariants as stop
-use Rattle.wy_eval_expressions.specs.Outcomes.{stopped}
+use Rattle.wy_eval_exprs.specs.declared.stop.Stop.{Stop}
+use Rattle.wy_eval_exprs.specs.declared.stop.Stop.TheVariants as stop
+use Rattle.wy_eval_exprs.specs.Outcomes.{stopped}
 
 pub assigned_whole : (w : Setting ℕ) (fr : Frame ℕ) (at x : ℕ) (path : List Step) (v : tree.Expr ℕ) (s : Store) (m : Meter) → length path ≡ 0 → assigned w fr at x (map seen_step path) v s m ≡ (eval w true v s m >>= stored fr at x (type_at fr.types x) s)
 assigned_whole w fr at x [] v s m h = refl
@@ -32,20 +33,7 @@ pub needed_then : {X : Type 0} (at : ℕ) (o : Option Datum) (d : Datum) (next :
 needed_then at None d next m h = absurd cc
 needed_then at (Some c) d next m h = let g : c ≡ d = cc in ap (λ x. next x m) g
 
--- a run that stopped, whatever it was to answer
-abbrev as_any : {X Y : Type 0} → Outcome X → Outcome Y
-as_any (Done x m) = Spent
-as_any (Fault kind at m) = Fault kind at m
-as_any (More m) = More m
-as_any Spent = Spent
-
-any_stopped : (X Y : Type 0) (e : Stop) (k : Meter) → as_any {X = X} {Y = Y} (stopped e k) ≡ stopped e k
-any_stopped X Y (stop.Fault kind at) k = refl
-any_stopped X Y stop.More k = refl
-any_stopped X Y stop.Spent k = refl
-any_stopped X Y stop.NoMemory k = refl
-
-no_stop : {X Y : Type 0} (d : X) (m k : Meter) (e : Stop) (o : Outcome Y) → Done d m ≡ stopped e k → o ≡ stopped e k
+pub no_stop : {X Y : Type 0} (d : X) (m k : Meter) (e : Stop) (o : Outcome Y) → Done d m ≡ stopped e k → o ≡ stopped e k
 no_stop d m k (stop.Fault kind at) o h = absurd cc
 no_stop d m k stop.More o h = absurd cc
 no_stop d m k stop.Spent o h = absurd cc

@@ -11,7 +11,7 @@ use Rattle.wy_sem.specs.Growth.{Settles}
 use Rattle.wy_sem.specs.Meter.{Meter, Outcome, Spent, Run}
 use Rattle.wy_sem.proofs.Limits.{limit_is_exact}
 use Rattle.wy_eval.specs.Endings.{EndsAs}
-use Rattle.wy_eval_expressions.specs.Settings.{here}
+use Rattle.wy_eval_exprs.specs.Settings.{here}
 use Rattle.wy_eval.proofs.CalleeLemmas.{callee_behind}
 
 pub placed : (rs : List (tree.Routine ℕ)) (n : ℕ) (r : Routine) → callee rs n ≡ Declared (seen_routine r) → r.at ≡ place_of (callee rs n)

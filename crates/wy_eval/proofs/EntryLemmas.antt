@@ -2,6 +2,7 @@
 use Rattle.std.proofs.Common.{◌≡◌, ◌≢◌, ℕ, ◌+◌, ◌<◌, ◌≤◌, List, [], ◌∷◌, map, length, drop, get_or, Option, Result, Ok, Err, refl, sym, ap, ◌∙◌}
 use Rattle.std.specs.Prelude.{IsErrAnd}
 use Rattle.std.proofs.lemmas.List.{drop_all}
+use Rattle.wy_lemmas.proofs.Lists.{next_of as next_item}
 use Rattle.wy_value.specs.Datum.{Datum}
 use Rattle.wy_value.specs.declared.value.Value.{Value}
 use Rattle.wy_value.specs.Seen.{seen}
@@ -13,11 +14,10 @@ use Rattle.wy_sem.specs.Evaluation.{arguments}
 use Rattle.wy_sem.specs.Meter.{Meter, Done, Run}
 use Rattle.wy_sem.specs.Statements.{given}
 use Rattle.wy_sem.specs.TypeTests.{Test}
-use Rattle.wy_eval_expressions.specs.declared.stop.Stop.{Stop}
-use Rattle.wy_eval_expressions.specs.declared.stop.Stop.TheVariants as stop
-use Rattle.wy_eval_expressions.specs.Outcomes.{stopped}
-use Rattle.wy_eval_expressions.proofs.LoopLemmas.{next_item}
-use Rattle.wy_eval_expressions.proofs.StepLemmas.{done}
+use Rattle.wy_eval_exprs.specs.declared.stop.Stop.{Stop}
+use Rattle.wy_eval_exprs.specs.declared.stop.Stop.TheVariants as stop
+use Rattle.wy_eval_exprs.specs.Outcomes.{stopped}
+use Rattle.wy_eval_exprs.proofs.StepLemmas.{done}
 use Rattle.wy_eval.specs.Entries.{GoesOn}
 use Rattle.wy_eval.proofs.FollowLemmas.{given_stops, given_then}
 

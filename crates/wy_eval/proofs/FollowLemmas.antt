@@ -9,29 +9,23 @@ use Rattle.wy_sem.specs.Meter.{Meter, Outcome, Done, Fault, More, Spent, Run, �
 use Rattle.wy_sem.specs.Expressions.{Setting, Store, clauses, holds}
 use Rattle.wy_sem.specs.Statements.{given}
 use Rattle.wy_sem.specs.TypeTests.{Test}
-use Rattle.wy_eval_expressions.specs.declared.stop.Stop.{Stop}
-use Rattle.wy_eval_expressions.specs.declared.stop.Stop.TheVariants as stop
-use Rattle.wy_eval_expressions.specs.Outcomes.{stopped}
-use Rattle.wy_eval_expressions.proofs.StepLemmas.{done}
-
-no_stop : {X : Type 0} (m k : Meter) (e : Stop) (o : Outcome X) → (e ≢ stop.NoMemory → done m ≡ stopped e k) → e ≢ stop.NoMemory → o ≡ stopped e k
-no_stop m k (stop.Fault kind at) o h none = let g : done m ≡ Fault kind at k = h none in absurd cc
-no_stop m k stop.More o h none = let g : done m ≡ More k = h none in absurd cc
-no_stop m k stop.Spent o h none = let g : done m ≡ Spent = h none in absurd cc
-no_stop m k stop.NoMemory o h none = absurd (none refl)
+use Rattle.wy_eval_exprs.specs.declared.stop.Stop.{Stop}
+use Rattle.wy_eval_exprs.specs.declared.stop.Stop.TheVariants as stop
+use Rattle.wy_eval_exprs.specs.Outcomes.{stopped}
+use Rattle.wy_eval_exprs.proofs.StepLemmas.{done, no_stop}
 
 pub checked : {X : Type 0} (b : Bool) (kind : CondKind) (at : ℕ) (next : Run X) (m k : Meter) → check b kind at done m ≡ Done tt k → check b kind at next m ≡ next k
 checked true kind at next m k h = let e : m ≡ k = cc in ap next e
 checked false kind at next m k h = absurd cc
 
 -- a run that stopped, whatever it was to answer
-abbrev as_any : {X Y : Type 0} → Outcome X → Outcome Y
+abbrev pub as_any : {X Y : Type 0} → Outcome X → Outcome Y
 as_any (Done x m) = Spent
 as_any (Fault kind at m) = Fault kind at m
 as_any (More m) = More m
 as_any Spent = Spent
 
-any_stopped : (X Y : Type 0) (e : Stop) (k : Meter) → as_any {X = X} {Y = Y} (stopped e k) ≡ stopped e k
+pub any_stopped : (X Y : Type 0) (e : Stop) (k : Meter) → as_any {X = X} {Y = Y} (stopped e k) ≡ stopped e k
 any_stopped X Y (stop.Fault kind at) k = refl
 any_stopped X Y stop.More k = refl
 any_stopped X Y stop.Spent k = refl

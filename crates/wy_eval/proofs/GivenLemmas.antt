@@ -9,7 +9,7 @@ use Rattle.wy_core.specs.declared.declarations.Alias.{Alias}
 use Rattle.wy_sem.specs.Meter.{Meter, Done, choose}
 use Rattle.wy_sem.specs.Evaluation.{owed_member}
 use Rattle.wy_sem.specs.TypeTests.{answer, is_constrained, member, mentions, tests}
-use Rattle.wy_eval_expressions.specs.Settings.{here}
+use Rattle.wy_eval_exprs.specs.Settings.{here}
 use Rattle.wy_eval.specs.Marks.{marked, rounds}
 use Rattle.wy_eval.proofs.MarkLemmas.{type_marked}
 

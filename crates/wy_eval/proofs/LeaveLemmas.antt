@@ -1,8 +1,7 @@
 -- Results that are given, and calls that are entered.
-use Rattle.std.proofs.Common.{◌≡◌, ◌≢◌, ℕ, Bool, true, false, List, map, length, Option, Some, None, refl, sym, ap, ◌∙◌}
-use Rattle.std.specs.Prelude.{nat_eq}
-use Rattle.std.proofs.lemmas.Bool.{eqb-true, eq-eqb}
-use Rattle.std.proofs.lemmas.List.{length-map}
+use Rattle.std.proofs.Common.{◌≡◌, ◌≢◌, ℕ, List, map, length, Option, Some, None, sym, ap, ◌∙◌}
+use Rattle.std.proofs.lemmas.Bool.{eq-eqb}
+use Rattle.wy_eval_exprs.proofs.BeginLemmas.{counts}
 use Rattle.wy_value.specs.Datum.{Datum}
 use Rattle.wy_value.specs.declared.value.Value.{Value}
 use Rattle.wy_value.specs.Seen.{seen}
@@ -16,14 +15,14 @@ use Rattle.wy_core.specs.declared.types.Ty.{Ty}
 use Rattle.wy_term.specs.declared.cond.CondKind.TheVariants.{Ensures, Member, Requires}
 use Rattle.wy_sem.specs.Evaluation.{arguments, bound, entry_of, owed_member}
 use Rattle.wy_sem.specs.Expressions.{Store, clauses}
-use Rattle.wy_sem.specs.Meter.{Meter, Done, Fault, Run, check}
+use Rattle.wy_sem.specs.Meter.{Meter, Done, Run, check}
 use Rattle.wy_sem.specs.Statements.{Exit, Gave, given, leave}
 use Rattle.wy_sem.specs.TypeTests.{clause_setting, set_if, unset}
-use Rattle.wy_eval_expressions.specs.declared.stop.Stop.{Stop}
-use Rattle.wy_eval_expressions.specs.declared.stop.Stop.TheVariants as stop
-use Rattle.wy_eval_expressions.specs.Outcomes.{stopped}
-use Rattle.wy_eval_expressions.specs.Settings.{here}
-use Rattle.wy_eval_expressions.proofs.StepLemmas.{done}
+use Rattle.wy_eval_exprs.specs.declared.stop.Stop.{Stop}
+use Rattle.wy_eval_exprs.specs.declared.stop.Stop.TheVariants as stop
+use Rattle.wy_eval_exprs.specs.Outcomes.{stopped}
+use Rattle.wy_eval_exprs.specs.Settings.{here}
+use Rattle.wy_eval_exprs.proofs.StepLemmas.{done}
 use Rattle.wy_eval.specs.Entries.{entering}
 use Rattle.wy_eval.specs.Exits.{frame}
 use Rattle.wy_eval.proofs.FollowLemmas.{clauses_stops, clauses_then, given_stops, given_then}
@@ -49,12 +48,6 @@ leave_none_stops limit types r ts entry at cs m k e none same h not_memory =
     ap (λ o. leave w (frame limit types r ts entry) at (seen_output o) None m) none
     ∙ (ap (λ l. clauses w Ensures at (seen_exprs l) entry (Done (Gave None)) m) (sym same)
     ∙ clauses_stops w Ensures at (seen_exprs cs) entry (Done (Gave None)) m k e h not_memory)
-
-pub leave_unwanted : (limit : ℕ) (types : List (tree.Alias ℕ)) (r : Routine) (ts : List Ty) (entry : Store) (at : ℕ) (o : Output) (m : Meter) → r.result ≡ Some o → left limit types r ts entry at None m ≡ Fault Member at m
-leave_unwanted limit types r ts entry at o m is = ap (λ x. leave (clause_setting here (Some limit) types) (frame limit types r ts entry) at (seen_output x) None m) is
-
-pub leave_missing : (limit : ℕ) (types : List (tree.Alias ℕ)) (r : Routine) (ts : List Ty) (entry : Store) (at : ℕ) (d : Datum) (m : Meter) → r.result ≡ None → left limit types r ts entry at (Some d) m ≡ Fault Member at m
-leave_missing limit types r ts entry at d m is = ap (λ x. leave (clause_setting here (Some limit) types) (frame limit types r ts entry) at (seen_output x) (Some d) m) is
 
 -- what is checked where a value is given
 abbrev pub giving : ℕ → List (tree.Alias ℕ) → Routine → Store → ℕ → Output → Datum → Run Exit
@@ -93,18 +86,6 @@ leave_stops limit types r ts entry at o d cs s m k j e is h same held g none =
     leave_given limit types r ts entry at o d cs s m k is h same held ∙ clauses_stops (clause_setting here (Some limit) types) Ensures at (seen_exprs cs) s (Done (Gave (Some d))) k j e g none
 
 -- ---- a call that is entered
-
-false_of : (b : Bool) → (b ≡ true → ⊥) → b ≡ false
-false_of true h = absurd (h refl)
-false_of false h = refl
-
-counts : (vs : List Value) (ps : List Param) → (length (map seen vs) ≡ length vs) × (length (map seen_param ps) ≡ length ps)
-counts vs ps = (length-map vs seen, length-map ps seen_param)
-
-pub miscounted : (limit : ℕ) (types : List (tree.Alias ℕ)) (r : Routine) (at : ℕ) (ps : List Param) (vs : List Value) (next : Run (Option Datum)) (m : Meter) → ps ≡ r.params → (length vs ≡ length ps → ⊥) → entering limit types (seen_routine r) at (map seen vs) next m ≡ Fault Member at m
-miscounted limit types r at ps vs next m same h =
-    ap (λ b. check b Member at (arguments (owed_member here (Some limit) types) at (map seen_param r.params) (map seen vs) (clauses (clause_setting here (Some limit) types) Requires at (seen_exprs r.preconditions) (entry_of (seen_routine r) (map seen vs)) next)) m)
-    (false_of (nat_eq (length (map seen vs)) (length (map seen_param r.params))) (λ g. h (sym (counts vs r.params).0 ∙ (eqb-true (length (map seen vs)) (length (map seen_param r.params)) g ∙ ((counts vs r.params).1 ∙ ap length (sym same))))))
 
 -- the requires clauses of a call, and what follows
 abbrev pub required : ℕ → List (tree.Alias ℕ) → Routine → ℕ → List Datum → Run (Option Datum) → Run (Option Datum)

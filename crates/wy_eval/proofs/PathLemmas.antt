@@ -2,6 +2,9 @@
 use Rattle.std.proofs.Common.{◌≡◌, ◌≢◌, ℕ, ◌+◌, ◌<◌, ◌≤◌, pos, Bool, true, false, List, [], ◌∷◌, ◌++◌, map, length, drop, get_or, Option, Some, None, Result, Ok, Err, refl, sym, ap, ◌∙◌, append_assoc}
 use Rattle.std.specs.Prelude.{IsErrAnd}
 use Rattle.std.proofs.lemmas.List.{drop_all, map_push}
+use Rattle.wy_eval.proofs.AssignLemmas.{no_stop}
+use Rattle.wy_eval.proofs.FollowLemmas.{as_any, any_stopped}
+use Rattle.wy_lemmas.proofs.Lists.{next_of as next_item}
 use Rattle.wy_value.specs.Datum.{Datum, Null, Truth, Whole, Array, Record, Data}
 use Rattle.wy_value.specs.declared.value.Value.{Value}
 use Rattle.wy_core.specs.CoreSeen.{seen_expr, seen_step, seen_step_kind}
@@ -16,14 +19,13 @@ use Rattle.wy_sem.specs.Meter.{Meter, Outcome, Done, Fault, More, Spent, Run, �
 use Rattle.wy_sem.specs.Operations as spec
 use Rattle.wy_sem.specs.Operations.{as_fields, as_items, as_number, find, indexed, is_index, item_at, needed}
 use Rattle.wy_sem.specs.Statements.{path_of}
-use Rattle.wy_eval_expressions.specs.declared.stop.Stop.{Stop}
-use Rattle.wy_eval_expressions.specs.declared.stop.Stop.TheVariants as stop
-use Rattle.wy_eval_expressions.specs.declared.updates.Slot.{Slot}
-use Rattle.wy_eval_expressions.specs.declared.updates.Slot.TheVariants as slot
-use Rattle.wy_eval_expressions.specs.Outcomes.{stopped}
-use Rattle.wy_eval_expressions.specs.Parts.{IndexOf, seen_slot}
-use Rattle.wy_eval_expressions.proofs.LoopLemmas.{next_item}
-use Rattle.wy_eval_expressions.proofs.StepLemmas.{then_is, then_stops_plain}
+use Rattle.wy_eval_exprs.specs.declared.stop.Stop.{Stop}
+use Rattle.wy_eval_exprs.specs.declared.stop.Stop.TheVariants as stop
+use Rattle.wy_eval_exprs.specs.declared.updates.Slot.{Slot}
+use Rattle.wy_eval_exprs.specs.declared.updates.Slot.TheVariants as slot
+use Rattle.wy_eval_exprs.specs.Outcomes.{stopped}
+use Rattle.wy_eval_exprs.specs.Parts.{IndexOf, seen_slot}
+use Rattle.wy_eval_exprs.proofs.StepLemmas.{then_is, then_stops_plain}
 use Rattle.wy_eval.specs.Settings.{StepsTo, slots_in}
 
 -- ---- one step
@@ -43,25 +45,6 @@ field_then at Null p name next m h = absurd cc
 field_then at (Truth b) p name next m h = absurd cc
 field_then at (Whole z) p name next m h = absurd cc
 field_then at (Array ds) p name next m h = absurd cc
-
--- a run that stopped, whatever it was to answer
-abbrev as_any : {X Y : Type 0} → Outcome X → Outcome Y
-as_any (Done x m) = Spent
-as_any (Fault kind at m) = Fault kind at m
-as_any (More m) = More m
-as_any Spent = Spent
-
-any_stopped : (X Y : Type 0) (e : Stop) (k : Meter) → as_any {X = X} {Y = Y} (stopped e k) ≡ stopped e k
-any_stopped X Y (stop.Fault kind at) k = refl
-any_stopped X Y stop.More k = refl
-any_stopped X Y stop.Spent k = refl
-any_stopped X Y stop.NoMemory k = refl
-
-no_stop : {X Y : Type 0} (d : X) (m k : Meter) (e : Stop) (o : Outcome Y) → Done d m ≡ stopped e k → o ≡ stopped e k
-no_stop d m k (stop.Fault kind at) o h = absurd cc
-no_stop d m k stop.More o h = absurd cc
-no_stop d m k stop.Spent o h = absurd cc
-no_stop d m k stop.NoMemory o h = absurd cc
 
 field_stops : {X : Type 0} (at : ℕ) (d : Datum) (name : List ℕ) (next : Datum → Run X) (m : Meter) (e : Stop) → spec.field_of at d name m ≡ stopped e m → as_fields at d (λ fs. needed at (find fs name) next) m ≡ stopped e m
 field_stops at (Record fs) name next m e h = missing at (find fs name) next m e h

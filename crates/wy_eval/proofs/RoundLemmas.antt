@@ -1,23 +1,18 @@
 -- Turns of loops.
-use Rattle.std.proofs.Common.{◌≡◌, ◌≢◌, ℕ, suc, Bool, true, false, List, Some, Err, refl, sym, ap, ◌∙◌}
+use Rattle.std.proofs.Common.{◌≡◌, ◌≢◌, ℕ, suc, Bool, true, false, List, Err, sym, ap, ◌∙◌}
 use Rattle.wy_value.specs.Datum.{Datum, Truth}
-use Rattle.wy_core.specs.CoreTree as tree
 use Rattle.wy_core.specs.CoreTree.{Expr, Stmts}
-use Rattle.wy_term.specs.declared.cond.CondKind.TheVariants.{Keep}
-use Rattle.wy_sem.specs.Expressions.{Setting, Store, clauses, eval, holds}
+use Rattle.wy_sem.specs.Expressions.{Setting, Store, eval}
 use Rattle.wy_sem.specs.Meter.{Meter, Done, Run, ◌>>=◌, choose, spend}
 use Rattle.wy_sem.specs.Operations.{as_truth}
 use Rattle.wy_sem.specs.Statements.{Exit, Went, Frame, go_round, rounds, tested_truth}
-use Rattle.wy_sem.specs.TypeTests.{clause_setting}
-use Rattle.wy_eval_expressions.specs.declared.stop.Stop.{Stop}
-use Rattle.wy_eval_expressions.specs.declared.stop.Stop.TheVariants as stop
-use Rattle.wy_eval_expressions.specs.Operands.{TruthOf}
-use Rattle.wy_eval_expressions.specs.Outcomes.{stopped}
-use Rattle.wy_eval_expressions.proofs.OperandLemmas.{not_truth}
-use Rattle.wy_eval_expressions.specs.Settings.{here}
-use Rattle.wy_eval_expressions.proofs.StepLemmas.{done, spent, spent_stops, then_is, then_stops_plain}
-use Rattle.wy_eval.proofs.FollowLemmas.{clauses_same, clauses_stops, clauses_then}
-use Rattle.wy_eval.specs.Settings.{code, kept}
+use Rattle.wy_eval_exprs.specs.declared.stop.Stop.{Stop}
+use Rattle.wy_eval_exprs.specs.declared.stop.Stop.TheVariants as stop
+use Rattle.wy_eval_exprs.specs.Operands.{TruthOf}
+use Rattle.wy_eval_exprs.specs.Outcomes.{stopped}
+use Rattle.wy_eval_exprs.proofs.OperandLemmas.{not_truth}
+use Rattle.wy_eval_exprs.proofs.StepLemmas.{done, spent, spent_stops, then_is, then_stops_plain}
+use Rattle.wy_eval.specs.Settings.{kept}
 
 -- ---- the test of a condition
 
@@ -73,20 +68,3 @@ pub round_ended : (w : Setting ℕ) (fr : Frame ℕ) (at : ℕ) (test : Expr ℕ
     → after_test w fr at test body invariants j s b k ≡ go_round at (kept w invariants) (turning w fr at test body invariants j) o n
 round_ended w fr at test body invariants j s k n b o is h =
     ap (λ c. after_test w fr at test body invariants j s c k) is ∙ then_is (body s k) (go_round at (kept w invariants) (turning w fr at test body invariants j)) o n h
-
--- ---- invariants of code are checked as those of contracts
-
-same_holds : (core : tree.Core ℕ) (types : List (tree.Alias ℕ)) (limit calls : ℕ) (e : Expr ℕ) (s : Store) (n : Meter) → holds (code core types limit calls) e s n ≡ holds (clause_setting here (Some limit) types) e s n
-same_holds core types limit calls e s n = refl
-
-pub kept_then : (core : tree.Core ℕ) (types : List (tree.Alias ℕ)) (limit calls from : ℕ) (invariants : List (Expr ℕ)) (s : Store) (next : Run Exit) (m k : Meter) → clauses (clause_setting here (Some limit) types) Keep from invariants s done m ≡ Done tt k
-    → kept (code core types limit calls) invariants from s next m ≡ next k
-kept_then core types limit calls from invariants s next m k h =
-    clauses_same (code core types limit calls) (clause_setting here (Some limit) types) Keep from invariants s next m (λ e n. same_holds core types limit calls e s n)
-    ∙ clauses_then (clause_setting here (Some limit) types) Keep from invariants s next m k h
-
-pub kept_stops : (core : tree.Core ℕ) (types : List (tree.Alias ℕ)) (limit calls from : ℕ) (invariants : List (Expr ℕ)) (s : Store) (next : Run Exit) (m k : Meter) (e : Stop) → (e ≢ stop.NoMemory → clauses (clause_setting here (Some limit) types) Keep from invariants s done m ≡ stopped e k)
-    → e ≢ stop.NoMemory → kept (code core types limit calls) invariants from s next m ≡ stopped e k
-kept_stops core types limit calls from invariants s next m k e h none =
-    clauses_same (code core types limit calls) (clause_setting here (Some limit) types) Keep from invariants s next m (λ x n. same_holds core types limit calls x s n)
-    ∙ clauses_stops (clause_setting here (Some limit) types) Keep from invariants s next m k e h none

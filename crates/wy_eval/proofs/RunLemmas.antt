@@ -16,11 +16,11 @@ use Rattle.wy_sem.specs.Expressions.{Store, clauses}
 use Rattle.wy_sem.specs.Meter.{Meter, Outcome, Done, Fault, More, Spent, Run, ◌>>=◌, check, spend}
 use Rattle.wy_sem.specs.Statements.{Exit, Went, Broke, Continued, Gave, Frame, exec_all, leave}
 use Rattle.wy_sem.specs.TypeTests.{Test, clause_setting, set_if}
-use Rattle.wy_eval_expressions.specs.declared.stop.Stop.{Stop}
-use Rattle.wy_eval_expressions.specs.declared.stop.Stop.TheVariants as stop
-use Rattle.wy_eval_expressions.specs.Outcomes.{stopped}
-use Rattle.wy_eval_expressions.specs.Settings.{here}
-use Rattle.wy_eval_expressions.proofs.StepLemmas.{done, spent, spent_stops}
+use Rattle.wy_eval_exprs.specs.declared.stop.Stop.{Stop}
+use Rattle.wy_eval_exprs.specs.declared.stop.Stop.TheVariants as stop
+use Rattle.wy_eval_exprs.specs.Outcomes.{stopped}
+use Rattle.wy_eval_exprs.specs.Settings.{here}
+use Rattle.wy_eval_exprs.proofs.StepLemmas.{done, spent, spent_stops}
 use Rattle.wy_eval.specs.Entries.{entering}
 use Rattle.wy_eval.specs.Exits.{frame}
 use Rattle.wy_eval.proofs.FollowLemmas.{clauses_same}

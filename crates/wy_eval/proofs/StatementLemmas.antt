@@ -8,18 +8,18 @@ use Rattle.wy_core.specs.declared.statements.Step.{Step}
 use Rattle.wy_core.specs.declared.statements.Stmt as st
 use Rattle.wy_core.specs.declared.statements.StmtKind as kind
 use Rattle.wy_core.specs.declared.types.Ty.{Ty}
+use Rattle.wy_lemmas.proofs.Lists.{next_of as next_item}
 use Rattle.wy_sem.specs.Expressions.{Setting, Store}
 use Rattle.wy_sem.specs.Meter.{Meter, Done, Run, ◌>>=◌, spend}
 use Rattle.wy_value.specs.declared.value.Value.{Value}
 use Rattle.wy_value.specs.Seen.{seen}
 use Rattle.wy_sem.specs.Operations.{needed}
 use Rattle.wy_sem.specs.Statements.{Exit, Went, Broke, Continued, Gave, Frame, exec, exec_all, go_on}
-use Rattle.wy_eval_expressions.specs.declared.stop.Stop.{Stop}
-use Rattle.wy_eval_expressions.specs.declared.stop.Stop.TheVariants as stop
-use Rattle.wy_eval_expressions.specs.Operands.{NeededOf, seen_option as seen_value}
-use Rattle.wy_eval_expressions.specs.Outcomes.{Gives, stopped}
-use Rattle.wy_eval_expressions.proofs.LoopLemmas.{next_item}
-use Rattle.wy_eval_expressions.proofs.StepLemmas.{done, spent_stops, then_is, then_stops_plain}
+use Rattle.wy_eval_exprs.specs.declared.stop.Stop.{Stop}
+use Rattle.wy_eval_exprs.specs.declared.stop.Stop.TheVariants as stop
+use Rattle.wy_eval_exprs.specs.Operands.{NeededOf, seen_option as seen_value}
+use Rattle.wy_eval_exprs.specs.Outcomes.{Gives, stopped}
+use Rattle.wy_eval_exprs.proofs.StepLemmas.{done, spent_stops, then_is, then_stops_plain}
 
 -- ---- what a node stands for
 

@@ -7,10 +7,10 @@ use Rattle.wy_sem.specs.Meter.{Meter, Run}
 use Rattle.wy_sem.specs.Statements as spec
 use Rattle.wy_sem.specs.Statements.{go_round}
 use Rattle.wy_sem.specs.TypeTests.{clause_setting}
-use Rattle.wy_eval_expressions.specs.declared.stop.Stop.{Stop}
-use Rattle.wy_eval_expressions.specs.declared.stop.Stop.TheVariants as stop
-use Rattle.wy_eval_expressions.specs.Outcomes.{stopped}
-use Rattle.wy_eval_expressions.specs.Settings.{here}
+use Rattle.wy_eval_exprs.specs.declared.stop.Stop.{Stop}
+use Rattle.wy_eval_exprs.specs.declared.stop.Stop.TheVariants as stop
+use Rattle.wy_eval_exprs.specs.Outcomes.{stopped}
+use Rattle.wy_eval_exprs.specs.Settings.{here}
 use Rattle.wy_eval.specs.declared.turning.Turn.{Turn}
 use Rattle.wy_eval.specs.Settings.{kept}
 use Rattle.wy_eval.specs.Turns.{GoesRound}

@@ -7,7 +7,7 @@ use Rattle.wy_sem.specs.Meter.{Meter, Run}
 use Rattle.wy_sem.specs.Statements as spec
 use Rattle.wy_sem.specs.Statements.{Went, Broke, Continued, Gave, go_round}
 use Rattle.wy_sem.specs.TypeTests.{clause_setting}
-use Rattle.wy_eval_expressions.specs.Settings.{here}
+use Rattle.wy_eval_exprs.specs.Settings.{here}
 use Rattle.wy_eval.specs.Settings.{code, kept}
 use Rattle.wy_eval.proofs.RunLemmas.{clauses_as}
 

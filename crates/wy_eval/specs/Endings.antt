@@ -3,7 +3,7 @@ use Rattle.std.specs.Prelude.{◌≡◌, ◌<◌, ◌≤◌, ℕ, List, Option}
 use Rattle.wy_value.specs.Datum.{Datum}
 use Rattle.wy_sem.specs.Meter as sem
 use Rattle.wy_sem.specs.Meter.{Outcome, Done, Fault, More, Spent, Run}
-use Rattle.wy_eval_expressions.specs.Operands.{seen_option}
+use Rattle.wy_eval_exprs.specs.Operands.{seen_option}
 use Rattle.wy_eval.specs.declared.ending.EvalEnd.{EvalEnd}
 use Rattle.wy_eval.specs.declared.ending.EvalEnd.TheVariants as end
 

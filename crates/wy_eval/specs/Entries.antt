@@ -9,10 +9,10 @@ use Rattle.wy_sem.specs.Expressions.{clauses}
 use Rattle.wy_sem.specs.Meter as sem
 use Rattle.wy_sem.specs.Meter.{Run, check}
 use Rattle.wy_sem.specs.TypeTests.{clause_setting}
-use Rattle.wy_eval_expressions.specs.declared.stop.Stop.{Stop}
-use Rattle.wy_eval_expressions.specs.declared.stop.Stop.TheVariants as stop
-use Rattle.wy_eval_expressions.specs.Outcomes.{stopped}
-use Rattle.wy_eval_expressions.specs.Settings.{here}
+use Rattle.wy_eval_exprs.specs.declared.stop.Stop.{Stop}
+use Rattle.wy_eval_exprs.specs.declared.stop.Stop.TheVariants as stop
+use Rattle.wy_eval_exprs.specs.Outcomes.{stopped}
+use Rattle.wy_eval_exprs.specs.Settings.{here}
 
 -- what a call does before its body
 abbrev pub entering : ℕ → List (tree.Alias ℕ) → tree.Routine ℕ → ℕ → List Datum → Run (Option Datum) → Run (Option Datum)

@@ -9,9 +9,9 @@ use Rattle.wy_sem.specs.Evaluation.{owed_member}
 use Rattle.wy_sem.specs.Expressions.{Store}
 use Rattle.wy_sem.specs.Statements as spec
 use Rattle.wy_sem.specs.Statements.{Frame}
-use Rattle.wy_eval_expressions.specs.Operands.{seen_option}
-use Rattle.wy_eval_expressions.specs.Scopes.{store_of}
-use Rattle.wy_eval_expressions.specs.Settings.{here}
+use Rattle.wy_eval_exprs.specs.Operands.{seen_option}
+use Rattle.wy_eval_exprs.specs.Scopes.{store_of}
+use Rattle.wy_eval_exprs.specs.Settings.{here}
 use Rattle.wy_eval.specs.declared.exits.Exit.{Exit}
 use Rattle.wy_eval.specs.declared.exits.Exit.TheVariants as exit
 

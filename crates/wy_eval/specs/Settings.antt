@@ -12,12 +12,12 @@ use Rattle.wy_sem.specs.Meter.{Done, Fault, Run, ◌>>=◌}
 use Rattle.wy_sem.specs.Operations as operations
 use Rattle.wy_sem.specs.Statements.{Exit, path_of}
 use Rattle.wy_sem.specs.TypeTests.{tests}
-use Rattle.wy_eval_expressions.specs.declared.stop.Stop.{Stop}
-use Rattle.wy_eval_expressions.specs.declared.stop.Stop.TheVariants as stop
-use Rattle.wy_eval_expressions.specs.declared.updates.Slot.{Slot}
-use Rattle.wy_eval_expressions.specs.Outcomes.{stopped}
-use Rattle.wy_eval_expressions.specs.Parts.{seen_slot}
-use Rattle.wy_eval_expressions.specs.Settings.{here}
+use Rattle.wy_eval_exprs.specs.declared.stop.Stop.{Stop}
+use Rattle.wy_eval_exprs.specs.declared.stop.Stop.TheVariants as stop
+use Rattle.wy_eval_exprs.specs.declared.updates.Slot.{Slot}
+use Rattle.wy_eval_exprs.specs.Outcomes.{stopped}
+use Rattle.wy_eval_exprs.specs.Parts.{seen_slot}
+use Rattle.wy_eval_exprs.specs.Settings.{here}
 
 -- code calls the functions and methods of its program, which nest so deep
 abbrev pub code : Core ℕ → List (Alias ℕ) → ℕ → ℕ → Setting ℕ

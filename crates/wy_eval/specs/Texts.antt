@@ -6,8 +6,8 @@ use Rattle.wy_sem.specs.Evaluation.{is_ascii}
 use Rattle.wy_sem.specs.Meter as sem
 use Rattle.wy_sem.specs.Meter.{Run, check}
 use Rattle.wy_sem.specs.Operations.{as_number}
-use Rattle.wy_eval_expressions.specs.declared.stop.Stop.{Stop}
-use Rattle.wy_eval_expressions.specs.Outcomes.{stopped}
+use Rattle.wy_eval_exprs.specs.declared.stop.Stop.{Stop}
+use Rattle.wy_eval_exprs.specs.Outcomes.{stopped}
 
 -- the byte that the datum is, or the fault that it makes, whatever follows
 abbrev pub AsciiOf : ℕ → Datum → Result ℕ Stop → Type 0

@@ -4,8 +4,8 @@ ghost use Rattle.wy_core.specs.CoreSeen.{seen_alias, seen_core, seen_expr, seen_
 ghost use Rattle.wy_core.specs.CoreTree.{aliases_of};
 ghost use Rattle.wy_value.specs.Seen.{seen};
 ghost use Rattle.wy_sem.specs.Statements as spec;
-ghost use Rattle.wy_eval_expressions.specs.Outcomes.{Gives, meter_of};
-ghost use Rattle.wy_eval_expressions.specs.Scopes.{store_of};
+ghost use Rattle.wy_eval_exprs.specs.Outcomes.{Gives, meter_of};
+ghost use Rattle.wy_eval_exprs.specs.Scopes.{store_of};
 ghost use Rattle.wy_eval.specs.Exits.{frame, seen_exit};
 ghost use Rattle.wy_eval.specs.Settings.{StepsTo, code, slots_in};
 
@@ -15,7 +15,7 @@ use crate::program::Program;
 use crate::storing::{stored_as, whole_of};
 use std::alloc::Global;
 use wy_core::{Core, Expr, Routine, Step, StepKind, Ty};
-use wy_eval_expressions::{Meter, Slot, Stop, field_of, index_of, item_at, updated};
+use wy_eval_exprs::{Meter, Slot, Stop, field_of, index_of, item_at, updated};
 use wy_items::Items;
 use wy_value::Value;
 

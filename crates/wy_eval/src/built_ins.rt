@@ -4,15 +4,15 @@ ghost use Rattle.wy_core.specs.CoreSeen.{seen_alias, seen_core, seen_decl, seen_
 ghost use Rattle.wy_core.specs.CoreTree.{routines_of};
 ghost use Rattle.wy_value.specs.Seen.{seen};
 ghost use Rattle.wy_sem.specs.Evaluation.{Declared, callee};
-ghost use Rattle.wy_eval_expressions.specs.Operands.{seen_option};
-ghost use Rattle.wy_eval_expressions.specs.Outcomes.{Gives, meter_of};
+ghost use Rattle.wy_eval_exprs.specs.Operands.{seen_option};
+ghost use Rattle.wy_eval_exprs.specs.Outcomes.{Gives, meter_of};
 ghost use Rattle.wy_eval.specs.Settings.{built_in_call};
 
 use crate::printing::{print_call, print_int_call};
 use crate::program::Program;
 use std::alloc::Global;
 use wy_core::{Core, Decl, Routine};
-use wy_eval_expressions::{Meter, Stop};
+use wy_eval_exprs::{Meter, Stop};
 use wy_term::CondKind;
 use wy_value::Value;
 

@@ -4,9 +4,9 @@ ghost use Rattle.wy_core.specs.CoreSeen.{seen_alias, seen_core};
 ghost use Rattle.wy_core.specs.CoreTree.{aliases_of};
 ghost use Rattle.wy_value.specs.Seen.{seen};
 ghost use Rattle.wy_sem.specs.Evaluation.{run as spec_run};
-ghost use Rattle.wy_eval_expressions.specs.Operands.{seen_option};
-ghost use Rattle.wy_eval_expressions.specs.Outcomes.{Gives, meter_of};
-ghost use Rattle.wy_eval_expressions.specs.Settings.{here};
+ghost use Rattle.wy_eval_exprs.specs.Operands.{seen_option};
+ghost use Rattle.wy_eval_exprs.specs.Outcomes.{Gives, meter_of};
+ghost use Rattle.wy_eval_exprs.specs.Settings.{here};
 
 use crate::built_ins::{built_in, find};
 use crate::entering::entered;
@@ -16,7 +16,7 @@ use crate::statements::exec_all;
 use crate::variables::types_of;
 use std::alloc::Global;
 use wy_core::Core;
-use wy_eval_expressions::{Meter, Stop};
+use wy_eval_exprs::{Meter, Stop};
 use wy_value::Value;
 
 /// A call, which spends a tick. Calls nest no deeper than the number says.

@@ -3,7 +3,7 @@ ghost use Rattle.std.specs.Prelude.{◌≤◌, IfOk, Some, map};
 ghost use Rattle.wy_core.specs.CoreSeen.{seen_core};
 ghost use Rattle.wy_value.specs.Seen.{seen};
 ghost use Rattle.wy_sem.specs.Evaluation.{contract_cost, evaluate, limited_evaluate};
-ghost use Rattle.wy_eval_expressions.specs.Settings.{here};
+ghost use Rattle.wy_eval_exprs.specs.Settings.{here};
 ghost use Rattle.wy_eval.specs.Endings.{IsExactEnd, SaysEnd};
 
 use crate::built_ins::find;
@@ -11,7 +11,7 @@ use crate::calls::run;
 use crate::program::Program;
 use std::alloc::Global;
 use wy_core::Core;
-use wy_eval_expressions::{Meter, NoMemory, ROOM, Stop};
+use wy_eval_exprs::{Meter, NoMemory, ROOM, Stop};
 use wy_term::CondKind;
 use wy_value::Value;
 

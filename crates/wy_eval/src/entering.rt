@@ -3,16 +3,16 @@ ghost use Rattle.std.specs.Prelude.{◌≡◌, IfOk, Some, map};
 ghost use Rattle.wy_core.specs.CoreSeen.{seen_alias, seen_param, seen_routine};
 ghost use Rattle.wy_value.specs.Seen.{seen};
 ghost use Rattle.wy_sem.specs.Evaluation.{arguments, entry_of as spec_entry_of, owed_member};
-ghost use Rattle.wy_eval_expressions.specs.Outcomes.{meter_of};
-ghost use Rattle.wy_eval_expressions.specs.Scopes.{store_of};
-ghost use Rattle.wy_eval_expressions.specs.Settings.{here};
+ghost use Rattle.wy_eval_exprs.specs.Outcomes.{meter_of};
+ghost use Rattle.wy_eval_exprs.specs.Scopes.{store_of};
+ghost use Rattle.wy_eval_exprs.specs.Settings.{here};
 ghost use Rattle.wy_eval.specs.Entries.{GoesOn, entering};
 
 use crate::giving::given;
 use crate::program::Program;
 use std::alloc::Global;
 use wy_core::{Param, Routine};
-use wy_eval_expressions::{Meter, Stop, clauses_hold, entry_of};
+use wy_eval_exprs::{Meter, Stop, clauses_hold, entry_of};
 use wy_term::CondKind;
 use wy_value::Value;
 

@@ -6,16 +6,16 @@ ghost use Rattle.wy_sem.specs.Evaluation.{owed_member};
 ghost use Rattle.wy_sem.specs.Expressions.{put as spec_put};
 ghost use Rattle.wy_sem.specs.Meter.{Done};
 ghost use Rattle.wy_sem.specs.Statements.{Went, given as spec_given};
-ghost use Rattle.wy_eval_expressions.specs.Outcomes.{Gives, meter_of};
-ghost use Rattle.wy_eval_expressions.specs.Scopes.{store_of};
-ghost use Rattle.wy_eval_expressions.specs.Settings.{here};
+ghost use Rattle.wy_eval_exprs.specs.Outcomes.{Gives, meter_of};
+ghost use Rattle.wy_eval_exprs.specs.Scopes.{store_of};
+ghost use Rattle.wy_eval_exprs.specs.Settings.{here};
 ghost use Rattle.wy_eval.specs.Exits.{seen_exit};
 
 use crate::giving::given;
 use crate::program::Program;
 use std::alloc::Global;
 use wy_core::Ty;
-use wy_eval_expressions::{Meter, Stop, put};
+use wy_eval_exprs::{Meter, Stop, put};
 use wy_value::Value;
 
 /// How a statement ends.

@@ -5,10 +5,10 @@ ghost use Rattle.wy_core.specs.CoreTree.{aliases_of, exprs_of};
 ghost use Rattle.wy_value.specs.Seen.{seen};
 ghost use Rattle.wy_sem.specs.Expressions as spec;
 ghost use Rattle.wy_sem.specs.Operations as operations;
-ghost use Rattle.wy_eval_expressions.specs.Operands.{parts_of};
-ghost use Rattle.wy_eval_expressions.specs.Outcomes.{Gives, meter_of};
-ghost use Rattle.wy_eval_expressions.specs.Scopes.{scope, store_of};
-ghost use Rattle.wy_eval_expressions.specs.Settings.{data_in, turns_of};
+ghost use Rattle.wy_eval_exprs.specs.Operands.{parts_of};
+ghost use Rattle.wy_eval_exprs.specs.Outcomes.{Gives, meter_of};
+ghost use Rattle.wy_eval_exprs.specs.Scopes.{scope, store_of};
+ghost use Rattle.wy_eval_exprs.specs.Settings.{data_in, turns_of};
 ghost use Rattle.wy_eval.specs.Settings.{code};
 
 use crate::calls::run;
@@ -17,7 +17,7 @@ use crate::program::Program;
 use std::alloc::Global;
 use wy_core::{Core, Expr, ExprKind, Op};
 use wy_data::Name;
-use wy_eval_expressions::{
+use wy_eval_exprs::{
     Meter, Stop, applied, as_numbers, as_truth, denied, early, field_of, item_of, length, needed,
     negated, repeated, variable, with_number,
 };

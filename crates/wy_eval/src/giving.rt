@@ -6,14 +6,14 @@ ghost use Rattle.wy_sem.specs.Evaluation.{owed_member as spec_owed_member};
 ghost use Rattle.wy_sem.specs.Meter.{Done};
 ghost use Rattle.wy_sem.specs.Statements.{given as spec_given};
 ghost use Rattle.wy_sem.specs.TypeTests.{tests as spec_tests};
-ghost use Rattle.wy_eval_expressions.specs.Outcomes.{Gives, itself, meter_of};
-ghost use Rattle.wy_eval_expressions.specs.Settings.{here};
+ghost use Rattle.wy_eval_exprs.specs.Outcomes.{Gives, itself, meter_of};
+ghost use Rattle.wy_eval_exprs.specs.Settings.{here};
 
 use crate::constrained::mentions;
 use crate::program::Program;
 use std::alloc::Global;
 use wy_core::Ty;
-use wy_eval_expressions::{Meter, ROOM, Stop, check, member, type_test};
+use wy_eval_exprs::{Meter, ROOM, Stop, check, member, type_test};
 use wy_term::CondKind;
 use wy_value::Value;
 

@@ -5,10 +5,10 @@ ghost use Rattle.wy_value.specs.Seen.{seen};
 ghost use Rattle.wy_sem.specs.Evaluation.{result_of as spec_result_of};
 ghost use Rattle.wy_sem.specs.Statements.{leave as spec_leave};
 ghost use Rattle.wy_sem.specs.TypeTests.{clause_setting, set_if};
-ghost use Rattle.wy_eval_expressions.specs.Operands.{seen_option};
-ghost use Rattle.wy_eval_expressions.specs.Outcomes.{Gives, meter_of};
-ghost use Rattle.wy_eval_expressions.specs.Scopes.{store_of};
-ghost use Rattle.wy_eval_expressions.specs.Settings.{here};
+ghost use Rattle.wy_eval_exprs.specs.Operands.{seen_option};
+ghost use Rattle.wy_eval_exprs.specs.Outcomes.{Gives, meter_of};
+ghost use Rattle.wy_eval_exprs.specs.Scopes.{store_of};
+ghost use Rattle.wy_eval_exprs.specs.Settings.{here};
 ghost use Rattle.wy_eval.specs.Exits.{frame, gave, seen_exit};
 
 use crate::exits::Exit;
@@ -16,7 +16,7 @@ use crate::giving::given;
 use crate::program::Program;
 use std::alloc::{AllocError, Global};
 use wy_core::{Routine, Ty};
-use wy_eval_expressions::{Meter, Stop, clauses_hold, put};
+use wy_eval_exprs::{Meter, Stop, clauses_hold, put};
 use wy_term::CondKind;
 use wy_value::Value;
 

@@ -2,12 +2,12 @@
 ghost use Rattle.std.specs.Prelude.{Some, map};
 ghost use Rattle.wy_value.specs.Seen.{seen};
 ghost use Rattle.wy_sem.specs.Evaluation.{print_call as spec_print_call, print_int_call as spec_print_int_call, text_of as spec_text_of};
-ghost use Rattle.wy_eval_expressions.specs.Operands.{items_of, seen_option};
-ghost use Rattle.wy_eval_expressions.specs.Outcomes.{Gives, meter_of};
+ghost use Rattle.wy_eval_exprs.specs.Operands.{items_of, seen_option};
+ghost use Rattle.wy_eval_exprs.specs.Outcomes.{Gives, meter_of};
 ghost use Rattle.wy_eval.specs.Texts.{AsciiOf};
 
 use std::alloc::Global;
-use wy_eval_expressions::{Meter, Stop, as_items, as_number};
+use wy_eval_exprs::{Meter, Stop, as_items, as_number};
 use wy_term::CondKind;
 use wy_value::Value;
 

@@ -7,7 +7,7 @@ ghost use Rattle.wy_eval.specs.Marks.{rounds};
 use crate::constrained::constrained_names;
 use std::alloc::{AllocError, Global};
 use wy_core::Core;
-use wy_eval_expressions::Declared;
+use wy_eval_exprs::Declared;
 
 /// The declared types of a program, how many turns contracts may spend, and for each declared type, by
 /// its number, whether one with clauses is reached from it.

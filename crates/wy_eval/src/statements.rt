@@ -3,8 +3,8 @@ ghost use Rattle.std.specs.Prelude.{◌≡◌, map, suc};
 ghost use Rattle.wy_core.specs.CoreSeen.{seen_alias, seen_block, seen_core, seen_expr, seen_exprs, seen_stmt};
 ghost use Rattle.wy_core.specs.CoreTree.{aliases_of};
 ghost use Rattle.wy_sem.specs.Statements as spec;
-ghost use Rattle.wy_eval_expressions.specs.Outcomes.{Gives, meter_of};
-ghost use Rattle.wy_eval_expressions.specs.Scopes.{store_of};
+ghost use Rattle.wy_eval_exprs.specs.Outcomes.{Gives, meter_of};
+ghost use Rattle.wy_eval_exprs.specs.Scopes.{store_of};
 ghost use Rattle.wy_eval.specs.Exits.{frame, seen_exit};
 ghost use Rattle.wy_eval.specs.Settings.{code, kept};
 
@@ -17,7 +17,7 @@ use crate::program::Program;
 use crate::turning::{Turn, turned};
 use std::alloc::Global;
 use wy_core::{Core, Expr, Routine, Stmt, StmtKind, Ty};
-use wy_eval_expressions::{Meter, Stop, as_truth, check, clauses_hold, holds_at, put};
+use wy_eval_exprs::{Meter, Stop, as_truth, check, clauses_hold, holds_at, put};
 use wy_term::CondKind;
 use wy_value::Value;
 

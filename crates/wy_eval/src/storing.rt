@@ -9,9 +9,9 @@ ghost use Rattle.wy_sem.specs.Meter.{Done};
 ghost use Rattle.wy_sem.specs.Operations as operations;
 ghost use Rattle.wy_sem.specs.Statements as statements;
 ghost use Rattle.wy_sem.specs.Statements.{Went, given};
-ghost use Rattle.wy_eval_expressions.specs.Outcomes.{Gives, meter_of};
-ghost use Rattle.wy_eval_expressions.specs.Scopes.{store_of};
-ghost use Rattle.wy_eval_expressions.specs.Settings.{here};
+ghost use Rattle.wy_eval_exprs.specs.Outcomes.{Gives, meter_of};
+ghost use Rattle.wy_eval_exprs.specs.Scopes.{store_of};
+ghost use Rattle.wy_eval_exprs.specs.Settings.{here};
 ghost use Rattle.wy_eval.specs.Exits.{seen_exit};
 
 use crate::exits::{Exit, stored};
@@ -19,7 +19,7 @@ use crate::program::Program;
 use crate::variables::type_at;
 use std::alloc::Global;
 use wy_core::Ty;
-use wy_eval_expressions::{Meter, Stop, put, variable};
+use wy_eval_exprs::{Meter, Stop, put, variable};
 use wy_value::Value;
 
 /// The value goes into the variable, whose declared type it must be of.

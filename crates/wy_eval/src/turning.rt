@@ -1,7 +1,7 @@
 //! What follows the body of a loop.
 ghost use Rattle.std.specs.Prelude.{map};
 ghost use Rattle.wy_core.specs.CoreSeen.{seen_alias, seen_exprs};
-ghost use Rattle.wy_eval_expressions.specs.Outcomes.{meter_of};
+ghost use Rattle.wy_eval_exprs.specs.Outcomes.{meter_of};
 ghost use Rattle.wy_eval.specs.Exits.{seen_exit};
 ghost use Rattle.wy_eval.specs.Turns.{GoesRound};
 
@@ -9,7 +9,7 @@ use crate::exits::Exit;
 use crate::program::Program;
 use std::alloc::Global;
 use wy_core::Expr;
-use wy_eval_expressions::{Meter, Stop, clauses_hold};
+use wy_eval_exprs::{Meter, Stop, clauses_hold};
 use wy_term::CondKind;
 use wy_value::Value;
 

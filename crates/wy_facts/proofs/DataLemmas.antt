@@ -1,9 +1,10 @@
 -- What arrays, records and quotients are after a change.
-use Rattle.std.proofs.Common.{inl, inr, ◌≡◌, ◌<◌, ℕ, zero, suc, true, false, ℤ, pos, negsuc, ◌≤ℤ◌, ◌<ℤ◌, Option, Some, refl, ap, arith}
+use Rattle.std.proofs.Common.{inl, inr, ◌≡◌, ◌<◌, ℕ, zero, suc, true, false, ℤ, pos, negsuc, ◌≤ℤ◌, ◌<ℤ◌, Some, refl, ap, arith}
 use Rattle.std.specs.Prelude.{◌⊎◌}
 use Rattle.std.proofs.lemmas.Bool.Decides.{Decides-int_eq}
 use Rattle.std.proofs.lemmas.Int.{ints}
-use Rattle.wy_value.specs.Datum.{Datum, Null, Truth, Whole, Array, Record, Data, no_items, item}
+use Rattle.wy_term_subst.proofs.wy_lemmas_proofs.Options.{some}
+use Rattle.wy_term_subst.specs.wy_value.Datum.{Datum, Null, Truth, Whole, Array, Record, Data, no_items, item}
 use Rattle.wy_term.specs.Term.{DataKind, null_kind, bool_kind, int_kind, array_kind, record_kind, Term, Parts, no_parts, part}
 use Rattle.wy_term.specs.Meaning.{Names, sense, senses_of, data_in}
 use Rattle.wy_term.specs.Data.{number_in, length_of, length_in, nth, item_at, element, with_nth, with_item_at, with_element, copies, repeated, items_with, is_of_kind, same_datum}
@@ -96,9 +97,6 @@ element-elsewhere (Truth b) z y e apart = refl
 element-elsewhere (Whole w) z y e apart = refl
 element-elsewhere (Array items) z y e apart = item-elsewhere items z y e apart
 element-elsewhere (Record fields) z y e apart = refl
-
-abbrev some : {A : Type 0} → A → Option A
-some x = Some x
 
 nth-items : (names : Names) (vs : Parts) (k : ℕ) (v : Term) → nth_of vs k ≡ Some v → nth (items_with (data_in (senses_of vs) names)) k ≡ (sense names v).datum
 nth-items names no_parts k v e = absurd cc

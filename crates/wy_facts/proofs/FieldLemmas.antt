@@ -1,19 +1,18 @@
 -- What records are after a field was set.
-use Rattle.std.proofs.Common.{◌≡◌, ℕ, List, [], ◌∷◌, Bool, true, false, cond, ◌&&◌, refl, sym, ap, subst, ◌∙◌}
+use Rattle.std.proofs.Common.{◌≡◌, ℕ, List, [], ◌∷◌, Bool, true, false, cond, refl, sym, ap, subst, ◌∙◌}
 use Rattle.std.specs.Prelude.{bytes_eq}
 use Rattle.std.specs.Ordering.{is_lt, nat_cmp, ordering_reverse}
 use Rattle.std.specs.declared.cmp.Ordering.{Ordering}
 use Rattle.std.specs.declared.cmp.Ordering.TheVariants.{Less, Equal, Greater}
 use Rattle.std.specs.Cmp.Lexicographic.{slice_cmp, nat_list_cmp_total}
 use Rattle.std.proofs.lemmas.Slice.Eq.{bytes_eq-Decides}
-use Rattle.wy_value.specs.Datum.{Datum, Null, Truth, Whole, Array, Record, Fields, no_fields}
-use Rattle.wy_value.specs.Datum as datum
+use Rattle.wy_term_subst.proofs.wy_lemmas_proofs.Choices.{and-left as first_true, and-right as rest_true, both_true}
+use Rattle.wy_term_subst.proofs.wy_lemmas_proofs.Lists.{bytes_self}
+use Rattle.wy_term_subst.specs.wy_value.Datum.{Datum, Null, Truth, Whole, Array, Record, Fields, no_fields}
+use Rattle.wy_term_subst.specs.wy_value.Datum as datum
 use Rattle.wy_term.specs.Term.{DataKind, null_kind, bool_kind, int_kind, array_kind, record_kind}
 use Rattle.wy_term.specs.Data.{field_of, field_in, with_field_of, with_field, is_of_kind, has_names}
 use Rattle.wy_facts.specs.Schema.{rise, has_name, has_field}
-
-bytes_self : (n : List ℕ) → bytes_eq n n ≡ true
-bytes_self n = (bytes_eq-Decides n n).1 refl
 
 -- ---- the field that was set
 
@@ -56,14 +55,6 @@ field_in-other (Record fields) f g w apart = field-other fields f g w apart
 
 -- ---- the kind
 
-first_true : (a b : Bool) → (a && b) ≡ true → a ≡ true
-first_true true b e = refl
-first_true false b e = absurd cc
-
-rest_true : (a b : Bool) → (a && b) ≡ true → b ≡ true
-rest_true true b e = e
-rest_true false b e = absurd cc
-
 is_less : (o : Ordering) → is_lt o ≡ true → o ≡ Less
 is_less Less e = refl
 is_less Equal e = absurd cc
@@ -95,9 +86,6 @@ rise_rest m (k ∷ ks) up = rest_true (is_lt (slice_cmp nat_cmp m k)) (rise (k �
 unless_first : (b c : Bool) → b ≡ false → cond b true c ≡ true → c ≡ true
 unless_first true c e h = absurd cc
 unless_first false c e h = h
-
-both_true : (a b : Bool) → a ≡ true → b ≡ true → (a && b) ≡ true
-both_true a b e f = rw (e, f) refl
 
 names-set : (fs : Fields) (ns : List (List ℕ)) (f : List ℕ) (w : Datum) → rise ns ≡ true → has_name ns f ≡ true → has_names fs ns ≡ true → has_names (with_field_of fs f w) ns ≡ true
 names-set no_fields [] f w up has are = absurd cc

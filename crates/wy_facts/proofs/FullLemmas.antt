@@ -1,5 +1,6 @@
 -- Each instance has as many parts as its schema takes.
 use Rattle.std.proofs.Common.{◌≡◌, ℕ, suc, List, [], ◌∷◌, Bool, true, false, cond, eqb, length, Option, Some, None, refl, sym, ap, subst, ◌∙◌}
+use Rattle.wy_term_subst.proofs.wy_lemmas_proofs.Options.{some, some_same as some_is}
 use Rattle.wy_term.specs.Term.{Term, field}
 use Rattle.wy_term.specs.Term as term
 use Rattle.wy_term.specs.Nodes.{Plain}
@@ -13,12 +14,6 @@ use Rattle.wy_facts.specs.Made.{made_two}
 use Rattle.wy_facts.specs.Program.{arity}
 use Rattle.wy_facts.specs.Schema.{◌>>=◌, is_val, as_copies, as_updated, as_element, as_equation, as_division, Instance, instance, only_if, numbered_in, element_of_array, elements_at_one_index, set_to, field_before, kind_before_update, kind_before_set, datum_by, plain_by_one, by_one, instance_of}
 use Rattle.wy_facts.specs.Seen.{terms_at, seen_instance}
-
-abbrev some : {A : Type 0} → A → Option A
-some x = Some x
-
-some_is : {A : Type 0} (x y : A) → some x ≡ some y → x ≡ y
-some_is x y e = cc
 
 abbrev IsFull : Option Instance → Type 0
 IsFull o = (i : Instance) → o ≡ Some i → length i.parts ≡ arity i.schema

@@ -1,4 +1,3 @@
-pub mod Ring
 pub mod SenseLemmas
 pub mod DataLemmas
 pub mod FieldLemmas
@@ -8,3 +7,6 @@ pub mod PartsLemmas
 pub mod StepLemmas
 pub mod FullLemmas
 mod MembershipLemmas
+pub mod SharedLemmas
+-- passed on to the crates above
+pub use Rattle.wy_term_subst.proofs as wy_term_subst_proofs

@@ -1,11 +1,12 @@
 -- Quotients and remainders.
-use Rattle.std.proofs.Common.{◌≡◌, ◌<◌, ◌+◌, ◌*◌, ◌/◌, ℕ, zero, suc, Bool, true, false, cond, eqb, ℤ, pos, negsuc, ◌+ℤ◌, ◌-ℤ◌, ◌*ℤ◌, ◌≤ℤ◌, ◌<ℤ◌, neg_ℤ, refl, sym, ap, subst, ◌∙◌, arith}
+use Rattle.std.proofs.Common.{◌≡◌, ◌<◌, ◌+◌, ◌/◌, ℕ, zero, suc, false, eqb, ℤ, pos, negsuc, ◌+ℤ◌, ◌-ℤ◌, ◌*ℤ◌, ◌≤ℤ◌, ◌<ℤ◌, neg_ℤ, refl, sym, ap, subst, ◌∙◌, arith}
 use Rattle.std.proofs.lemmas.Int.{ints}
 use Rattle.std.proofs.lemmas.Nat.{mod_below}
 use Rattle.std.proofs.Math.Nat.{div-add-mod}
 use Rattle.std.proofs.Math.IntN.{*ℤ-zero, *ℤ_comm}
+use Rattle.wy_term_subst.proofs.wy_lemmas_proofs.Numbers.{positive, opposite, one_times, pos_times, distrib_left}
+use Rattle.wy_term.proofs.SharedLemmas.{unless_zero}
 use Rattle.wy_term.specs.Data.{quotient_down, remainder}
-use Rattle.wy_facts.proofs.Ring.{distrib_left, one_times}
 
 -- the remainder of a division by b lies from 0 on below the size of b
 pub record Divides (a b : ℤ) : Type 0 where
@@ -13,14 +14,7 @@ pub record Divides (a b : ℤ) : Type 0 where
   pub below : pos 0 <ℤ b → remainder a b <ℤ b
   pub above : b <ℤ pos 0 → remainder a b <ℤ neg_ℤ b
 
-pos_times : (m k : ℕ) → pos m *ℤ pos k ≡ pos (m * k)
-pos_times m k = refl
-
--- a number below -1 as an opposite
-opposite : (k : ℕ) → negsuc k ≡ neg_ℤ (pos (k + 1))
-opposite k = omega (arith, ints)
-
-times_opposite : (x y : ℤ) → x *ℤ neg_ℤ y ≡ neg_ℤ (x *ℤ y)
+pub times_opposite : (x y : ℤ) → x *ℤ neg_ℤ y ≡ neg_ℤ (x *ℤ y)
 times_opposite x y =
     let none : y +ℤ neg_ℤ y ≡ pos 0 = omega (arith, ints) in
     let whole : x *ℤ (y +ℤ neg_ℤ y) ≡ pos 0 = ap (λ (z : ℤ). x *ℤ z) none ∙ *ℤ-zero x in
@@ -48,17 +42,9 @@ rest_down (negsuc n) m h =
         let one : pos m *ℤ pos 1 ≡ pos m = *ℤ_comm (pos m) (pos 1) ∙ one_times (pos m) in
         ap (λ (z : ℤ). pos m *ℤ z) split ∙ distrib_left (pos m) (pos k) (pos 1) ∙ ap (λ (z : ℤ). pos m *ℤ pos k +ℤ z) one
 
-unless_zero : (a : ℤ) (m : ℕ) (b : Bool) → b ≡ false → cond b (pos 0) (quotient_down a m) ≡ quotient_down a m
-unless_zero a m true e = absurd cc
-unless_zero a m false e = refl
-
 nonzero : (m : ℕ) → (pos m ≡ pos 0 → ⊥) → eqb m 0 ≡ false
 nonzero zero h = absurd (h refl)
 nonzero (suc m) h = grind arith
-
-positive : (m : ℕ) → (pos m ≡ pos 0 → ⊥) → 0 < m
-positive zero h = absurd (h refl)
-positive (suc m) h = omega arith
 
 not_below : (m : ℕ) → pos m <ℤ pos 0 → ⊥
 not_below m h = omega (arith, ints, h)

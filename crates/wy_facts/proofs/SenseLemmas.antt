@@ -3,8 +3,9 @@ use Rattle.std.proofs.Common.{◌≡◌, Bool, true, false, not, ◌&&◌, ◌||
 use Rattle.std.proofs.lemmas.Int.{ints}
 use Rattle.std.proofs.lemmas.Bool.Decides.{Decides-int_eq}
 use Rattle.std.proofs.lemmas.Slice.Eq.{bytes_eq-Decides}
-use Rattle.wy_value.specs.Datum.{Datum, Null, Truth, Whole, Array, Record, Data, no_items, item, Fields, no_fields}
-use Rattle.wy_value.specs.Datum as datum
+use Rattle.wy_term_subst.proofs.wy_lemmas_proofs.Choices.{not_false, not_true}
+use Rattle.wy_term_subst.specs.wy_value.Datum.{Datum, Null, Truth, Whole, Array, Record, Data, no_items, item, Fields, no_fields}
+use Rattle.wy_term_subst.specs.wy_value.Datum as datum
 use Rattle.wy_term.specs.Data.{same_datum, same_data, same_fields, length_in, number_in, is_of_kind, element}
 use Rattle.wy_term.specs.Term.{DataKind, Term, Of, no_parts, part, one, two, at_most, equal, of_kind, denied, all_of, any_of, len, num, get}
 use Rattle.wy_term.specs.Meaning.{Names, sense}
@@ -14,14 +15,6 @@ use Rattle.wy_facts.specs.Made.{made_one, made_two, is_at_most, is_equal, denial
 use Rattle.wy_facts.specs.Schema.{length_of, number_in as number_term}
 
 -- ---- truth values
-
-not_true : (b : Bool) → not b ≡ true → b ≡ false
-not_true true e = absurd cc
-not_true false e = refl
-
-not_false : (b : Bool) → not b ≡ false → b ≡ true
-not_false true e = refl
-not_false false e = absurd cc
 
 -- ---- equal data
 
@@ -124,9 +117,6 @@ module _ (names : Names) where
 
   pub equal_holds : (v w : Term) → dat_of v ≡ dat_of w → tru_of (is_equal v w) ≡ true
   equal_holds v w e = equal_means v w ∙ ap (same_datum (dat_of v)) (sym e) ∙ datum_self (dat_of v)
-
-  pub equal_says : (v w : Term) → tru_of (is_equal v w) ≡ true → same_datum (dat_of v) (dat_of w) ≡ true
-  equal_says v w e = sym (equal_means v w) ∙ e
 
   pub denial_holds : (f : Term) → tru_of f ≡ false → tru_of (denial f) ≡ true
   denial_holds f e = denial_means f ∙ ap not e

@@ -1,19 +1,14 @@
 -- What numbers name as terms are made, and the loops over names and instructions.
-use Rattle.std.proofs.Common.{◌≡◌, ◌<◌, ◌≤◌, ◌+◌, ◌-◌, ℕ, zero, suc, List, [], ◌∷◌, All, length, get_or, drop, true, ℤ, pos, negsuc, nat_abs, ◌≤ℤ◌, ◌<ℤ◌, Option, Some, None, refl, sym, ap, subst, ◌∙◌, arith}
+use Rattle.std.proofs.Common.{◌≡◌, ◌<◌, ◌≤◌, ◌+◌, ◌-◌, ℕ, zero, suc, List, [], ◌∷◌, length, get_or, drop, true, ℤ, pos, negsuc, nat_abs, ◌≤ℤ◌, ◌<ℤ◌, Option, Some, None, refl, sym, ap, subst, ◌∙◌, arith}
 use Rattle.std.proofs.lemmas.Int.{ints}
 use Rattle.std.proofs.lemmas.List.{drop_more}
+use Rattle.wy_term_subst.proofs.wy_lemmas_proofs.Lists.{first_of, rest_of}
 use Rattle.wy_term.specs.Term.{Symbol, Term}
 use Rattle.wy_term.specs.Nodes.{Plain, of, tree_at, parts_at, HasPartsBelow}
 use Rattle.wy_facts.specs.declared.program.Instruction.{Instruction}
 use Rattle.wy_facts.specs.Program.{after, ran}
 use Rattle.wy_facts.specs.Schema.{◌>>=◌, rise, nth_of, element_numbered}
 use Rattle.wy_facts.specs.Seen.{terms_at, AreBelow, Stays}
-
-first_of : {X : Type 0} (P : X → Type 0) (x : X) (xs : List X) → All P (x ∷ xs) → P x
-first_of P x xs all = all 0 x (omega arith)
-
-rest_of : {X : Type 0} (P : X → Type 0) (x : X) (xs : List X) → All P (x ∷ xs) → All P xs
-rest_of P x xs all i d lt = all (suc i) d (omega (arith, lt))
 
 pub stays_same : (ns : List Plain) → Stays ns ns
 stays_same ns = record { grows = omega arith; trees = λ t lt. refl }

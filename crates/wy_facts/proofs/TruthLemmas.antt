@@ -3,7 +3,9 @@ use Rattle.std.proofs.Common.{inl, inr, ◌≡◌, ℕ, List, [], ◌∷◌, Boo
 use Rattle.std.proofs.lemmas.Int.{ints}
 use Rattle.std.specs.Prelude.{bytes_eq, ◌⊎◌}
 use Rattle.std.proofs.lemmas.Slice.Eq.{bytes_eq-Decides}
-use Rattle.wy_value.specs.Datum.{Datum, Truth, Whole, Array}
+use Rattle.wy_term_subst.proofs.wy_lemmas_proofs.Choices.{true_false as not_both}
+use Rattle.wy_term_subst.proofs.wy_lemmas_proofs.Options.{some, some_same as some_is}
+use Rattle.wy_term_subst.specs.wy_value.Datum.{Datum, Truth, Whole, Array}
 use Rattle.wy_term.specs.Data.{quotient, remainder, length_in, element, with_element, repeated, field_in, with_field, items_with, is_of_kind, same_datum}
 use Rattle.wy_term.specs.Term.{DataKind, null_kind, bool_kind, int_kind, Term, Of, Parts, no_parts, part, leaf, one, two, Number}
 use Rattle.wy_term.specs.Term as term
@@ -24,12 +26,6 @@ use Rattle.wy_facts.proofs.DataLemmas.{length_natural, length-repeated, length-w
 use Rattle.wy_facts.proofs.FieldLemmas.{field_in-set, field_in-other, kind-with_field}
 use Rattle.wy_facts.proofs.QuotientLemmas.{divides}
 
-abbrev some : {A : Type 0} → A → Option A
-some x = Some x
-
-some_is : {A : Type 0} (x y : A) → some x ≡ some y → x ≡ y
-some_is x y e = cc
-
 -- both of two successive answers are there
 bind_some : {A B : Type 0} (o : Option A) (f : A → Option B) (y : B) → (o >>= f) ≡ Some y → (x : A) × (o ≡ Some x) × (f x ≡ Some y)
 bind_some (Some x) f y e = (x, refl, e)
@@ -47,10 +43,6 @@ below_apart a b h e = omega (arith, ints, h, e)
 
 above_apart : (a b : ℤ) → b <ℤ a → a ≡ b → ⊥
 above_apart a b h e = omega (arith, ints, h, e)
-
-not_both : (b : Bool) → b ≡ true → b ≡ false → ⊥
-not_both true e h = cc
-not_both false e h = cc
 
 module _ (names : Names) where
   -- ---- what terms of a form mean

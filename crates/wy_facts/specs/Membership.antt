@@ -3,7 +3,7 @@ use Rattle.std.specs.Prelude.{ℕ, ◌<◌, ◌==◌, List, [], ◌∷◌, All, 
 use Rattle.wy_term.specs.declared.cond.Cond.{Cond}
 use Rattle.wy_term.specs.Term.{Term, Of, no_parts, part, in_type}
 use Rattle.wy_term.specs.Condition.{Entry}
-use Rattle.wy_subst.specs.Substitution.{substituted}
+use Rattle.wy_term_subst.specs.Substitution.{substituted}
 use Rattle.wy_facts.specs.Made.{exactly_where}
 use Rattle.wy_facts.specs.Schema.{◌>>=◌, fact_of}
 

@@ -5,9 +5,8 @@ ghost use Rattle.wy_term.specs.Rewriting.{as_number};
 ghost use Rattle.wy_facts.specs.Schema.{is_val, length_is_natural, length_of_copies, length_of_updated, element_of_array, element_of_copies, element_updated, element_elsewhere, elements_at_one_index, field_updated, equal_numbers, datum_by_kind, as_updated, as_element, as_copies, element_numbered, numbered_in, set_to};
 ghost use Rattle.wy_facts.specs.Seen.{seen_instance, terms_at, AreBelow};
 
-use crate::memory::NoMemory;
 use crate::schema::{Instance, Schema};
-use wy_term::{Node, Terms};
+use wy_term::{NoMemory, Node, Terms};
 
 /// A schema, stated of these parts.
 pub fn of_parts(terms: &Terms, schema: Schema, parts: &[u32]) -> Result<Option<Instance>, NoMemory>

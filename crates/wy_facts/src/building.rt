@@ -7,11 +7,10 @@ ghost use Rattle.wy_term.specs.Nodes.{of, plain, grown, tree_at, HasPartsBelow};
 ghost use Rattle.wy_facts.specs.Program.{term_of_leaf, symbol_of_one, symbol_of_two, with_one, with_two, with_three, with_four, connective, after, ran};
 ghost use Rattle.wy_facts.specs.Seen.{terms_at, AreBelow, Stays};
 
-use crate::memory::NoMemory;
 use crate::program::{Binary, Instruction, Leaf, Unary};
 use std::alloc::{AllocError, Global};
 use std::collections::VecDeque;
-use wy_term::{Kind, Node, Terms};
+use wy_term::{Kind, NoMemory, Node, Terms};
 
 fn leaf_node(leaf: Leaf) -> Node
     ensures tree { (at : ℕ → Term) → folded (grown at (plain result)) ≡ term_of_leaf leaf }

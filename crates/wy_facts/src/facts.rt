@@ -14,11 +14,10 @@ use crate::arguments::{
     length_of_updated, of_parts,
 };
 use crate::membership::membership;
-use crate::memory::NoMemory;
 use crate::schema::{Instance, Schema};
 use crate::shapes::{division_at, field_before, kind_before_set, kind_before_update};
 use crate::stating::stated_of;
-use wy_term::{Cond, Node, Terms};
+use wy_term::{Cond, NoMemory, Node, Terms};
 
 // A schema, stated of a term and of the term of a node that is made, where there is one.
 fn with_made(

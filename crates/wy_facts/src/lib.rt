@@ -11,7 +11,6 @@ mod building;
 mod facts;
 mod law;
 mod membership;
-mod memory;
 mod program;
 mod schema;
 mod shapes;
@@ -19,4 +18,3 @@ mod stating;
 
 pub use facts::fact;
 pub use law::facts_are_true;
-pub use memory::NoMemory;

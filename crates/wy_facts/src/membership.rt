@@ -6,11 +6,10 @@ ghost use Rattle.wy_facts.specs.Made.{exactly_where};
 ghost use Rattle.wy_facts.specs.Membership.{as_membership, entry_for, unfolded, membership, AreTypesBelow};
 ghost use Rattle.wy_facts.specs.Seen.{Stays};
 
-use crate::memory::NoMemory;
 use crate::schema::{Instance, Schema};
 use crate::stating::stated_of;
-use wy_subst::subst;
-use wy_term::{Cond, Node, Terms};
+use wy_term::{Cond, NoMemory, Node, Terms};
+use wy_term_subst::subst;
 
 // The datum and the type's number of a test of a named type.
 fn membership_at(terms: &Terms, t: u32) -> Option<(u32, u32)>

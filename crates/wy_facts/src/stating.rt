@@ -7,11 +7,10 @@ ghost use Rattle.wy_facts.specs.Program.{arity};
 ghost use Rattle.wy_facts.specs.Seen.{terms_at, AreBelow, Stays};
 
 use crate::building::made_of;
-use crate::memory::NoMemory;
 use crate::program::program;
 use crate::schema::Instance;
 use std::collections::VecDeque;
-use wy_term::Terms;
+use wy_term::{NoMemory, Terms};
 
 // The term that was made last.
 #[tactic(auto, using(crate::proofs::StepLemmas::front_is))]

@@ -1,23 +1,20 @@
 -- From the end of a path to its begin: what a turn makes of the types along it, and where one fails.
-use Rattle.std.proofs.Common.{◌≡◌, ◌+◌, ◌<◌, ◌≤◌, ℕ, zero, suc, List, ◌∷◌, length, map, drop, get_or, refl, sym, subst, arith}
-use Rattle.std.proofs.lemmas.List.{drop_more, drop_all}
+use Rattle.std.proofs.Common.{◌≡◌, ◌+◌, ◌<◌, ◌≤◌, ℕ, zero, suc, List, ◌∷◌, length, map, drop, get_or, sym, subst, arith}
+use Rattle.std.proofs.lemmas.List.{drop_more}
 use Rattle.wy_core.specs.CoreSeen.{seen_step, seen_ty}
 use Rattle.wy_core.specs.Types as ty
 use Rattle.wy_core.specs.declared.statements.Step.{Step}
 use Rattle.wy_core.specs.declared.types.Ty.{Ty}
-use Rattle.wy_flow_expressions.specs.Seen.{seen_types}
+use Rattle.wy_flow_exprs.specs.Seen.{seen_types}
+use Rattle.wy_lemmas.proofs.Lists.{next_of as item_and_rest}
 use Rattle.wy_types.specs.Names.{Declared}
-use Rattle.wy_typing.specs.declared.fault.FlowFault.{FlowFault}
-use Rattle.wy_typing.specs.Outcomes.{Outcome, Gives, Fails, gave, stopped}
-use Rattle.wy_typing.specs.Paths.{StepUpdated, Updated}
-use Rattle.wy_flow.proofs.WalkLemmas.{item_and_rest}
+use Rattle.wy_flow_spec.specs.declared.typing.fault.FlowFault.{FlowFault}
+use Rattle.wy_flow_spec.specs.typing.Outcomes.{Outcome, Gives, Fails, gave, stopped}
+use Rattle.wy_flow_spec.specs.typing.Paths.{StepUpdated, Updated}
 
 -- the steps from this number on
 abbrev pub From : List Declared → ℕ → List Step → List Ty → ℕ → ty.Ty → Outcome ty.Ty → Type 0
 From names at path types k new o = Updated names at (map seen_step (drop k path)) (seen_types (drop k types)) new o
-
-pub from_end : (names : List Declared) (at : ℕ) (path : List Step) (types : List Ty) (k : ℕ) (new : ty.Ty) → length path ≤ k → From names at path types k new (Gives new)
-from_end names at path types k new over = subst (λ (l : List Step). Updated names at (map seen_step l) (seen_types (drop k types)) new (Gives new)) (sym (drop_all k path over)) refl
 
 pub from_turn : (names : List Declared) (at : ℕ) (path : List Step) (types : List Ty) (k : ℕ) (step : Step) (t u : Ty) (new inner : ty.Ty) (o : Outcome ty.Ty)
     → k < length path → length types ≡ length path + 1 → step ≡ get_or path k step → t ≡ get_or types k t → u ≡ get_or types (k + 1) u

@@ -4,13 +4,13 @@ use Rattle.std.specs.Prelude.{IsErrAnd, MatchResult}
 use Rattle.wy_core.specs.CoreTree.{Core}
 use Rattle.wy_core.specs.Types.{Ty}
 use Rattle.wy_types.specs.Names.{Declared, names_in}
-use Rattle.wy_typing.specs.declared.fault.FlowFault.{FlowFault}
-use Rattle.wy_typing.specs.declared.fault.FlowFault.TheVariants.{NotSubtype, NotArray, NoField, NotBool, NotInt, TypeWide, NoMemory}
-use Rattle.wy_typing.specs.Contexts.{Program, Signature}
-use Rattle.wy_typing.specs.Outcomes.{Outcome, Gives, Fails}
-use Rattle.wy_typing.specs.Programs.{program_of, CoreTyped, IsTyped}
-use Rattle.wy_typing.proofs.SingleLemmas.{given_or, no_fault}
-use Rattle.wy_typing.proofs.StatementLemmas.{single_core}
+use Rattle.wy_flow_spec.specs.declared.typing.fault.FlowFault.{FlowFault}
+use Rattle.wy_flow_spec.specs.declared.typing.fault.FlowFault.TheVariants.{NotSubtype, NotArray, NoField, NotBool, NotInt, TypeWide, NoMemory}
+use Rattle.wy_flow_spec.specs.typing.Contexts.{Program, Signature}
+use Rattle.wy_flow_spec.specs.typing.Outcomes.{Outcome, Gives, Fails}
+use Rattle.wy_flow_spec.specs.typing.Programs.{program_of, CoreTyped, IsTyped}
+use Rattle.wy_flow_spec.proofs.typing_lemmas.SingleLemmas.{given_or, no_fault}
+use Rattle.wy_flow_spec.proofs.typing_lemmas.StatementLemmas.{single_core}
 
 -- ---- what was made is the program's
 

@@ -1,20 +1,20 @@
 -- Equal steps, steps that lead to others, and what is known at a point by its parts.
-use Rattle.std.proofs.Common.{◌≡◌, ◌+◌, ◌<◌, ℕ, Bool, true, false, cond, List, [], ◌∷◌, ◌++◌, Option, Result, Ok, Err, length, drop, get_or, refl, sym, ap, ◌∙◌, subst}
+use Rattle.std.proofs.Common.{◌≡◌, ℕ, Bool, true, false, cond, List, [], ◌∷◌, ◌++◌, Option, Result, Ok, Err, refl, ap, ◌∙◌, subst}
 use Rattle.std.proofs.lemmas.Bool.{false≢true}
-use Rattle.std.proofs.lemmas.List.{drop_more}
 use Rattle.wy_core.specs.CoreSeen.{seen_ty}
 use Rattle.wy_core.specs.Types as ty
 use Rattle.wy_core.specs.declared.types.Ty.{Ty}
-use Rattle.wy_environment.specs.Variables.{Environment, given}
-use Rattle.wy_flow_expressions.specs.Seen.{seen_types}
+use Rattle.wy_flow_spec.specs.environment.Variables.{Environment, given}
+use Rattle.wy_flow_exprs.specs.Seen.{seen_types}
+pub use Rattle.wy_lemmas.proofs.Lists.{next_of as item_and_rest}
 use Rattle.wy_types.specs.Names.{Declared}
-use Rattle.wy_typing.specs.Asked.{Norm}
-use Rattle.wy_typing.specs.declared.fault.FlowFault.{FlowFault}
-use Rattle.wy_typing.specs.Contexts.{FoundAll}
-use Rattle.wy_typing.specs.Loops.{Begun, EndLoop, Head, RenewedAll}
-use Rattle.wy_typing.specs.Outcomes.{Outcome, Gives, Give, Then, gave, Meets}
-use Rattle.wy_typing.specs.States.{State, GiveNormal}
-use Rattle.wy_typing.specs.Statements.{EndIf}
+use Rattle.wy_flow_spec.specs.typing.Asked.{Norm}
+use Rattle.wy_flow_spec.specs.declared.typing.fault.FlowFault.{FlowFault}
+use Rattle.wy_flow_spec.specs.typing.Contexts.{FoundAll}
+use Rattle.wy_flow_spec.specs.typing.Loops.{Begun, EndLoop, Head, RenewedAll}
+use Rattle.wy_flow_spec.specs.typing.Outcomes.{Outcome, Gives, Give, Then, gave, Meets}
+use Rattle.wy_flow_spec.specs.typing.States.{State, GiveNormal}
+use Rattle.wy_flow_spec.specs.typing.Statements.{EndIf}
 
 -- of equal steps
 pub moved : {A Y Z : Type 0} (m : A → Outcome Y → Type 0) (view : Z → Y) (r : Result Z FlowFault) (a b : A) → a ≡ b → Meets (m a) view r → Meets (m b) view r
@@ -49,10 +49,6 @@ normal_given names at x t made env after e h same =
 pub head_meets : {Z : Type 0} (names : List Declared) (at : ℕ) (s : State) (xs : List ℕ) (view : Z → Environment) (r : Result Z FlowFault) → s.env.reached ≡ true
     → Meets (RenewedAll names at s.declared xs s.env) view r → Meets (Head names at s xs) view r
 head_meets names at s xs view r e h = where_true s.env.reached (RenewedAll names at s.declared xs s.env) (Give s.env) view r e h
-
--- the item of a turn, and the rest
-pub item_and_rest : {A : Type 0} (xs : List A) (i : ℕ) (x : A) → i < length xs → x ≡ get_or xs i x → drop i xs ≡ x ∷ drop (i + 1) xs
-item_and_rest xs i x within is = drop_more xs i x within ∙ ap (λ y. y ∷ drop (i + 1) xs) (sym is)
 
 -- ---- by parts
 

@@ -1,11 +1,11 @@
 -- What the code knows at a point of a body, as the definition has it.
 use Rattle.std.specs.Prelude.{List, map}
 use Rattle.wy_core.specs.Types as ty
-use Rattle.wy_environment.specs.Seen.{seen_environment, seen_slots}
-use Rattle.wy_environment.specs.Variables as variables
-use Rattle.wy_environment.specs.declared.environment.Environment.{Environment}
-use Rattle.wy_typing.specs.States as typing
-use Rattle.wy_typing.specs.Loops.{Begun}
+use Rattle.wy_flow_spec.specs.environment.Seen.{seen_environment, seen_slots}
+use Rattle.wy_flow_spec.specs.environment.Variables as variables
+use Rattle.wy_flow_spec.specs.declared.environment.environment.Environment.{Environment}
+use Rattle.wy_flow_spec.specs.typing.States as typing
+use Rattle.wy_flow_spec.specs.typing.Loops.{Begun}
 use Rattle.wy_flow.specs.declared.state.State.{State}
 
 abbrev pub seen_environments : List Environment → List variables.Environment

@@ -1,8 +1,8 @@
 //! The variables that statements assign.
 ghost use Rattle.std.specs.Prelude.{◌≡◌, [], IfOk};
 ghost use Rattle.wy_core.specs.CoreSeen.{seen_block, seen_stmt};
-ghost use Rattle.wy_typing.specs.Assigned as spec;
-ghost use Rattle.wy_typing.specs.Narrowing as rule;
+ghost use Rattle.wy_flow_spec.specs.typing.Assigned as spec;
+ghost use Rattle.wy_flow_spec.specs.typing.Narrowing as rule;
 
 use std::alloc::{AllocError, Global};
 use wy_core::{Stmt, StmtKind};

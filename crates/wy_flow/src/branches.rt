@@ -1,25 +1,25 @@
 //! Tests of statements, and the clauses of declarations and loops.
 ghost use Rattle.std.specs.Prelude.{◌≡◌, [], IfOk, OnOk};
 ghost use Rattle.wy_core.specs.CoreSeen.{seen_expr, seen_exprs};
-ghost use Rattle.wy_environment.specs.Seen.{seen_changes, seen_environment};
-ghost use Rattle.wy_environment.specs.Variables.{changed};
+ghost use Rattle.wy_flow_spec.specs.environment.Seen.{seen_changes, seen_environment};
+ghost use Rattle.wy_flow_spec.specs.environment.Variables.{changed};
 ghost use Rattle.wy_flow.specs.States.{seen_branches, seen_state};
-ghost use Rattle.wy_flow_expressions.specs.Seen.{seen_flow, seen_found, seen_program};
+ghost use Rattle.wy_flow_exprs.specs.Seen.{seen_flow, seen_found, seen_program};
 ghost use Rattle.wy_types.specs.Names.{types_of};
 ghost use Rattle.wy_types.specs.Questions.{IsOver};
 ghost use Rattle.wy_types.specs.Recursion.{RecurThroughParts};
-ghost use Rattle.wy_typing.specs.Outcomes.{Meets};
-ghost use Rattle.wy_typing.specs.Loops as loops;
-ghost use Rattle.wy_typing.specs.States as states;
-ghost use Rattle.wy_typing.specs.Statements as spec;
+ghost use Rattle.wy_flow_spec.specs.typing.Outcomes.{Meets};
+ghost use Rattle.wy_flow_spec.specs.typing.Loops as loops;
+ghost use Rattle.wy_flow_spec.specs.typing.States as states;
+ghost use Rattle.wy_flow_spec.specs.typing.Statements as spec;
 
 use crate::state::State;
 use std::alloc::{AllocError, Global};
-use wy_checks::{is_bool, joined};
 use wy_core::Expr;
-use wy_environment::Environment;
-use wy_flow_expressions::{Found, Program, Walk, typed};
-use wy_typing::FlowFault;
+use wy_flow_exprs::checks::{is_bool, joined};
+use wy_flow_exprs::{Found, Program, Walk, typed};
+use wy_flow_spec::environment::Environment;
+use wy_flow_spec::typing::FlowFault;
 
 /// The test of a statement at `at`.
 pub fn tested(

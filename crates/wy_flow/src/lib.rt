@@ -16,4 +16,4 @@ mod statements;
 mod values;
 
 pub use program::check;
-pub use wy_typing::{FlowFault, Typed};
+pub use wy_flow_spec::typing::{FlowFault, Typed};

@@ -1,25 +1,25 @@
 //! The heads and the ends of loops.
 ghost use Rattle.std.specs.Prelude.{◌≡◌, IfOk, OnOk};
 ghost use Rattle.wy_core.specs.CoreSeen.{seen_block, seen_expr, seen_exprs};
-ghost use Rattle.wy_environment.specs.Seen.{seen_environment, seen_slot, seen_slots};
+ghost use Rattle.wy_flow_spec.specs.environment.Seen.{seen_environment, seen_slot, seen_slots};
 ghost use Rattle.wy_flow.specs.States.{seen_branches, seen_environments, seen_state};
-ghost use Rattle.wy_flow_expressions.specs.Seen.{seen_flow, seen_program};
+ghost use Rattle.wy_flow_exprs.specs.Seen.{seen_flow, seen_program};
 ghost use Rattle.wy_types.specs.Names.{types_of};
 ghost use Rattle.wy_types.specs.Questions.{IsOver};
 ghost use Rattle.wy_types.specs.Recursion.{RecurThroughParts};
-ghost use Rattle.wy_typing.specs.Outcomes.{Meets};
-ghost use Rattle.wy_typing.specs.Loops as spec;
+ghost use Rattle.wy_flow_spec.specs.typing.Outcomes.{Meets};
+ghost use Rattle.wy_flow_spec.specs.typing.Loops as spec;
 
 use crate::assigned::assigned_variables;
 use crate::branches::{clauses, sides, tested};
 use crate::state::{State, declared_type};
 use std::alloc::Global;
-use wy_checks::{joined, norm_at};
 use wy_core::{Expr, Stmt};
-use wy_environment::{Environment, Shared};
-use wy_flow_expressions::{Program, Walk};
+use wy_flow_exprs::checks::{joined, norm_at};
+use wy_flow_exprs::{Program, Walk};
+use wy_flow_spec::environment::{Environment, Shared};
+use wy_flow_spec::typing::FlowFault;
 use wy_items::Items;
-use wy_typing::FlowFault;
 
 // The variable has its declared type.
 fn renewed(

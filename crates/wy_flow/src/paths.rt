@@ -1,24 +1,24 @@
 //! Updates of parts of a variable.
 ghost use Rattle.std.specs.Prelude.{◌≡◌, ◌+◌, length, map, IfOk, OnOk};
 ghost use Rattle.wy_core.specs.CoreSeen.{seen_step, seen_ty};
-ghost use Rattle.wy_environment.specs.Seen.{seen_changes, seen_environment, seen_slot, seen_slots};
+ghost use Rattle.wy_flow_spec.specs.environment.Seen.{seen_changes, seen_environment, seen_slot, seen_slots};
 ghost use Rattle.wy_flow.specs.States.{seen_environments, seen_state};
-ghost use Rattle.wy_flow_expressions.specs.Seen.{seen_all, seen_flow, seen_found, seen_program, seen_result, seen_types};
+ghost use Rattle.wy_flow_exprs.specs.Seen.{seen_all, seen_flow, seen_found, seen_program, seen_result, seen_types};
 ghost use Rattle.wy_types.specs.Names.{types_of};
 ghost use Rattle.wy_types.specs.Questions.{IsOver};
 ghost use Rattle.wy_types.specs.Recursion.{RecurThroughParts};
-ghost use Rattle.wy_typing.specs.Outcomes.{Meets};
+ghost use Rattle.wy_flow_spec.specs.typing.Outcomes.{Meets};
 ghost use Rattle.wy_core.specs.Types.{ArrayTy, UnionTy};
 ghost use Rattle.wy_flow.specs.Paths.{seen_reached};
-ghost use Rattle.wy_typing.specs.Paths as spec;
+ghost use Rattle.wy_flow_spec.specs.typing.Paths as spec;
 
 use std::alloc::{AllocError, Global};
-use wy_checks::{field_at, with_field_at};
 use wy_core::{Step, StepKind, Ty, TyKind};
-use wy_environment::{Environment, Shared};
-use wy_flow_expressions::{Program, Walk, item_of, typed};
+use wy_flow_exprs::checks::{field_at, with_field_at};
+use wy_flow_exprs::{Program, Walk, item_of, typed};
+use wy_flow_spec::environment::{Environment, Shared};
+use wy_flow_spec::typing::FlowFault;
 use wy_items::{Boxed, Items};
-use wy_typing::FlowFault;
 
 // What the step leads to in values of the type.
 fn step_type(

@@ -2,29 +2,29 @@
 ghost use Rattle.std.specs.Prelude.{◌≡◌, ◌≢◌, List, [], map, IfErr, IfOk, MatchResult, OnOk};
 ghost use Rattle.wy_core.specs.CoreSeen.{place_of_ty, seen_alias, seen_core, seen_decl, seen_exprs, seen_output, seen_param, seen_routine, seen_ty};
 ghost use Rattle.wy_core.specs.Types as types;
-ghost use Rattle.wy_environment.specs.Seen.{seen_environment, seen_slots};
-ghost use Rattle.wy_environment.specs.Variables.{nothing_known};
-ghost use Rattle.wy_flow_expressions.specs.Seen.{seen_flow, seen_program, seen_types};
+ghost use Rattle.wy_flow_spec.specs.environment.Seen.{seen_environment, seen_slots};
+ghost use Rattle.wy_flow_spec.specs.environment.Variables.{nothing_known};
+ghost use Rattle.wy_flow_exprs.specs.Seen.{seen_flow, seen_program, seen_types};
 ghost use Rattle.wy_types.specs.Names.{names_in, types_of};
 ghost use Rattle.wy_types.specs.Questions.{IsOver};
 ghost use Rattle.wy_types.specs.Recursion.{RecurThroughParts};
-ghost use Rattle.wy_typing.specs.Outcomes.{Fails, Meets};
-ghost use Rattle.wy_typing.specs.Programs as spec;
-ghost use Rattle.wy_typing.specs.TypedPrograms.{core_of, flow_of};
-ghost use Rattle.wy_typing.specs.declared.fault.FlowFault.{FlowFault};
-ghost use Rattle.wy_typing.specs.declared.fault.FlowFault.TheVariants.{NoMemory};
+ghost use Rattle.wy_flow_spec.specs.typing.Outcomes.{Fails, Meets};
+ghost use Rattle.wy_flow_spec.specs.typing.Programs as spec;
+ghost use Rattle.wy_flow_spec.specs.typing.TypedPrograms.{core_of, flow_of};
+ghost use Rattle.wy_flow_spec.specs.declared.typing.fault.FlowFault.{FlowFault};
+ghost use Rattle.wy_flow_spec.specs.declared.typing.fault.FlowFault.TheVariants.{NoMemory};
 
 use crate::branches::clauses;
 use crate::state::State;
 use crate::statements::block_typed;
 use std::alloc::{AllocError, Global};
-use wy_checks::norm_at;
 use wy_core::{Alias, Core, Decl, Output, Param, Routine, Ty};
-use wy_environment::{Environment, Shared, put_slot};
-use wy_flow_expressions::{Program, Walk, result_of, signatures_of};
+use wy_flow_exprs::checks::norm_at;
+use wy_flow_exprs::{Program, Walk, result_of, signatures_of};
+use wy_flow_spec::environment::{Environment, Shared, put_slot};
+use wy_flow_spec::typing::{FlowFault, Typed};
 use wy_items::Items;
 use wy_types::Names;
-use wy_typing::{FlowFault, Typed};
 
 /// The program with the flow type of each expression, or the first fault in the order of the walk:
 /// declarations in the order of the source, each once and from left to right, the parts of a node

@@ -1,14 +1,14 @@
 //! What is known at a point of a body.
 ghost use Rattle.std.specs.Prelude.{◌≡◌, [], IfOk, OnOk};
 ghost use Rattle.wy_core.specs.CoreSeen.{seen_ty};
-ghost use Rattle.wy_environment.specs.Seen.{seen_slot, seen_slots};
-ghost use Rattle.wy_environment.specs.Slots.{slot_at as slot};
+ghost use Rattle.wy_flow_spec.specs.environment.Seen.{seen_slot, seen_slots};
+ghost use Rattle.wy_flow_spec.specs.environment.Slots.{slot_at as slot};
 ghost use Rattle.wy_flow.specs.States.{seen_state};
-ghost use Rattle.wy_typing.specs.States as spec;
+ghost use Rattle.wy_flow_spec.specs.typing.States as spec;
 
 use std::alloc::{AllocError, Global};
 use wy_core::Ty;
-use wy_environment::{Environment, Shared, put_slot, slot_at};
+use wy_flow_spec::environment::{Environment, Shared, put_slot, slot_at};
 use wy_items::Items;
 
 /// The types of variables at a point, the declared types of those declared so far, and the types of

@@ -1,15 +1,15 @@
 //! Statements.
 ghost use Rattle.std.specs.Prelude.{◌≡◌, Some, map, OnOk};
 ghost use Rattle.wy_core.specs.CoreSeen.{seen_block, seen_expr, seen_exprs, seen_option, seen_step, seen_stmt, seen_ty};
-ghost use Rattle.wy_environment.specs.Seen.{seen_environment};
+ghost use Rattle.wy_flow_spec.specs.environment.Seen.{seen_environment};
 ghost use Rattle.wy_flow.specs.States.{seen_state};
-ghost use Rattle.wy_flow_expressions.specs.Seen.{seen_flow, seen_program, seen_result};
+ghost use Rattle.wy_flow_exprs.specs.Seen.{seen_flow, seen_program, seen_result};
 ghost use Rattle.wy_types.specs.Names.{types_of};
 ghost use Rattle.wy_types.specs.Questions.{IsOver};
 ghost use Rattle.wy_types.specs.Recursion.{RecurThroughParts};
-ghost use Rattle.wy_typing.specs.Outcomes.{Meets};
+ghost use Rattle.wy_flow_spec.specs.typing.Outcomes.{Meets};
 ghost use Rattle.wy_core.specs.CoreTree.{exprs_of};
-ghost use Rattle.wy_typing.specs.Statements as spec;
+ghost use Rattle.wy_flow_spec.specs.typing.Statements as spec;
 
 use crate::branches::{asserted, begin_else, begin_if, end_if};
 use crate::loops::{begin_loop, end_loop};
@@ -17,8 +17,8 @@ use crate::state::{State, broken, left};
 use crate::values::{assignment, declaration, fits, update};
 use std::alloc::Global;
 use wy_core::{Expr, Step, Stmt, StmtKind, Ty};
-use wy_flow_expressions::{Program, Walk, check_args, typed, typed_all};
-use wy_typing::FlowFault;
+use wy_flow_exprs::{Program, Walk, check_args, typed, typed_all};
+use wy_flow_spec::typing::FlowFault;
 
 // Behind a statement of a body whose result has this type.
 #[cycle(statements)]

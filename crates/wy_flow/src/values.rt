@@ -1,24 +1,24 @@
 //! Values that come into variables.
 ghost use Rattle.std.specs.Prelude.{◌≡◌, map, OnOk};
 ghost use Rattle.wy_core.specs.CoreSeen.{seen_expr, seen_option, seen_step, seen_ty};
-ghost use Rattle.wy_environment.specs.Seen.{seen_environment, seen_slot};
+ghost use Rattle.wy_flow_spec.specs.environment.Seen.{seen_environment, seen_slot};
 ghost use Rattle.wy_flow.specs.States.{seen_state};
-ghost use Rattle.wy_flow_expressions.specs.Seen.{seen_flow, seen_program};
+ghost use Rattle.wy_flow_exprs.specs.Seen.{seen_flow, seen_program};
 ghost use Rattle.wy_types.specs.Names.{types_of};
 ghost use Rattle.wy_types.specs.Questions.{IsOver};
 ghost use Rattle.wy_types.specs.Recursion.{RecurThroughParts};
-ghost use Rattle.wy_typing.specs.Outcomes.{Meets};
-ghost use Rattle.wy_typing.specs.States as states;
-ghost use Rattle.wy_typing.specs.Statements as spec;
+ghost use Rattle.wy_flow_spec.specs.typing.Outcomes.{Meets};
+ghost use Rattle.wy_flow_spec.specs.typing.States as states;
+ghost use Rattle.wy_flow_spec.specs.typing.Statements as spec;
 
 use crate::paths::{path_types, updated};
 use crate::state::{State, declare, declared_type};
 use std::alloc::Global;
-use wy_checks::{inter_of, is_within, norm_at};
 use wy_core::{Expr, Step, Ty};
-use wy_environment::{Environment, Shared};
-use wy_flow_expressions::{Program, Walk, typed};
-use wy_typing::FlowFault;
+use wy_flow_exprs::checks::{inter_of, is_within, norm_at};
+use wy_flow_exprs::{Program, Walk, typed};
+use wy_flow_spec::environment::{Environment, Shared};
+use wy_flow_spec::typing::FlowFault;
 
 /// The type is within the other, or `NotSubtype`.
 pub fn fits(

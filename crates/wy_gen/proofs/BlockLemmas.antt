@@ -1,5 +1,5 @@
 -- An `if` and a loop, whose parts are made from the end to the beginning.
-use Rattle.std.proofs.Common.{◌≡◌, ◌∙◌, ◌<◌, ◌≤◌, ◌+◌, ◌-◌, ℕ, suc, List, [], ◌∷◌, ◌++◌, length, Bool, drop, get_or, rules, refl, ap, sym, append_assoc, length-append, arith}
+use Rattle.std.proofs.Common.{◌≡◌, ◌∙◌, ◌<◌, ◌≤◌, ◌+◌, ◌-◌, ℕ, suc, List, [], ◌∷◌, ◌++◌, length, drop, get_or, rules, ap, sym, append_assoc, length-append, arith}
 use Rattle.wy_core.specs.CoreTree as tree
 use Rattle.wy_core.specs.CoreSeen.{seen_expr, seen_exprs, seen_block, seen_stmt}
 use Rattle.wy_core.specs.declared.expressions.Expr.{Expr}
@@ -7,15 +7,15 @@ use Rattle.wy_core.specs.declared.statements.Stmt as s
 use Rattle.wy_core.specs.declared.statements.Stmt.{Stmt}
 use Rattle.wy_core.specs.declared.statements.StmtKind as kind
 use Rattle.wy_live.specs.Sets.{Variables, joined}
-use Rattle.wy_live.specs.Walks.{live, live_all, head_live, around, nothing}
+use Rattle.wy_live.specs.Walks.{live, live_all, head_live, around}
 use Rattle.wy_live.specs.declared.walk.Ends.{Ends}
-use Rattle.wy_pieces.specs.declared.steps.Step.{Step}
-use Rattle.wy_pieces.specs.declared.steps.Step.TheVariants.{GoesBack}
-use Rattle.wy_pieces.specs.Steps.{fork, jumped, over, turns}
-use Rattle.wy_tables.specs.declared.context.Context.{Context}
-use Rattle.wy_compiled.specs.Expressions.{code, released, is_plain, release_unless}
+use Rattle.wy_code.specs.declared.pieces.steps.Step.{Step}
+use Rattle.wy_code.specs.declared.pieces.steps.Step.TheVariants.{GoesBack}
+use Rattle.wy_code.specs.pieces.Steps.{jumped, over, turns}
+use Rattle.wy_code_spec.specs.declared.tables.context.Context.{Context}
+use Rattle.wy_code_spec.specs.compiled.Expressions.{code, released, is_plain}
 use Rattle.wy_gen.proofs.LoopLemmas.{drop_back}
-use Rattle.wy_compiled.specs.Statements.{choice, branches, inside, turn, stmt_code, stmts_code}
+use Rattle.wy_code_spec.specs.compiled.Statements.{choice, branches, inside, turn, stmt_code, stmts_code}
 
 pub seen_if : (x : Stmt) (e : Expr) (a b : List Stmt) → x.kind ≡ kind.If e a b → seen_stmt x ≡ tree.IfStmt x.at (seen_expr e) (seen_block a) (seen_block b)
 seen_if x e a b is = search (rules, s.the_lemmas)
@@ -26,18 +26,6 @@ seen_while x e invariants b is = search (rules, s.the_lemmas)
 pub jumped_length : (two old : List Step) → length (jumped two old) ≡ over two + length old
 jumped_length [] old = omega arith
 jumped_length (x ∷ two) old = omega (arith, length-append (x ∷ two) old)
-
--- two blocks without code
-pub no_blocks : (r : ℕ) (plain : Bool) (one two old steps : List Step) → steps ≡ one ++ jumped two old → length steps ≡ length old → release_unless plain r ++ steps ≡ branches r plain one two ++ old
-no_blocks r plain [] [] old steps is h = ap (λ (l : List Step). release_unless plain r ++ l) is
-no_blocks r plain (s ∷ one) [] old steps is h = absurd (omega (arith, ap length is, h, length-append (s ∷ one) old))
-no_blocks r plain one (s ∷ two) old steps is h = absurd (omega (arith, ap length is, h, length-append one (jumped (s ∷ two) old), jumped_length (s ∷ two) old))
-
--- else there is a fork
-pub some_block : (r : ℕ) (plain : Bool) (one two old steps : List Step) → steps ≡ one ++ jumped two old → (length steps ≡ length old → ⊥) → fork r one two ++ old ≡ branches r plain one two ++ old
-some_block r plain [] [] old steps is h = absurd (h (ap length is))
-some_block r plain (s ∷ one) [] old steps is h = refl
-some_block r plain one (s ∷ two) old steps is h = refl
 
 -- the steps that stand behind the first block, and how many of them stand before the end of the loop around
 behind_more : (two old : List Step) (start : List Step) (k : ℕ) → start ≡ jumped two old → k ≤ length old → length start - k ≡ over two + (length old - k)
@@ -88,27 +76,9 @@ more_steps c st rest s live ends n exit again old made live_is within within_aga
     = λ i. stmt_code c st (live_is i) ends n (x i) (y i) ++ is i in
     same ∙ sym (append_assoc (stmt_code c st (live_all rest s ends) ends n (length after + (length old - exit)) (length after + (length old - again))) after old)
 
--- what is made still stands before the loop's end
-pub within_more : (c : Context) (rest : tree.Stmts ℕ) (s : Variables) (ends : Ends) (n exit again k : ℕ) (old made : List Step) → made ≡ stmts_code c rest s ends n exit again ++ old → k ≤ length old → k ≤ length made
-within_more c rest s ends n exit again k old made is h = omega (arith, ap length is, length-append (stmts_code c rest s ends n exit again) old)
-
--- a body, behind whose end nothing is live and no loop stands
-pub body_same : (c : Context) (body : tree.Stmts ℕ) (n exit again : ℕ) (old made : List Step) → exit ≡ length old → again ≡ length old → made ≡ stmts_code c body [] nothing n (length old - exit) (length old - again) ++ old
-    → made ≡ stmts_code c body [] nothing n 0 0 ++ old
-body_same c body n exit again old made exit_is again_is is =
-    let x : length old - exit ≡ 0 = omega arith in
-    let y : length old - again ≡ 0 = omega arith in
-    is ∙ (λ i. stmts_code c body [] nothing n (x i) (y i) ++ old)
-
 -- the end of the loop around, and its step back, stand behind what is made
 pub within_jumped : (two old start : List Step) (k : ℕ) → start ≡ jumped two old → k ≤ length old → k ≤ length start
 within_jumped two old start k is h = omega (arith, ap length is, jumped_length two old)
-
-pub within_turn : (gone old start : List Step) (ex : ℕ) → ex ≡ length old → start ≡ GoesBack 0 ∷ (gone ++ old) → ex ≤ length start
-within_turn gone old start ex ex_is is = omega (arith, ap length is, length-append gone old)
-
-pub again_turn : (gone old start : List Step) (ag done : ℕ) → ag ≡ suc done → done ≡ length (gone ++ old) → start ≡ GoesBack 0 ∷ (gone ++ old) → ag ≤ length start
-again_turn gone old start ag done ag_is done_is is = omega (arith, ap length is)
 
 -- a turn of the loop over the statements of a block, from the last one to the first
 module _ (c : Context) (b : List Stmt) (k : ℕ) (x : Stmt) (s before : Variables) (ends : Ends) (some : 0 < k) (within : k ≤ length b) (x_is : x ≡ get_or b (k - 1) x) (before_is : before ≡ live_all (seen_block (drop k b)) s ends) where

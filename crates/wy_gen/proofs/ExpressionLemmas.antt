@@ -6,17 +6,18 @@ use Rattle.wy_core.specs.declared.types.Ty.{Ty}
 use Rattle.wy_core.specs.declared.expressions.Op.{Op}
 use Rattle.wy_core.specs.declared.expressions.Expr.{Expr}
 use Rattle.wy_core.specs.declared.expressions.ExprKind as kind
+use Rattle.wy_gen.proofs.RoutineLemmas.{counted}
 use Rattle.wy_live.specs.Sets.{Variables}
 use Rattle.wy_live.specs.Walks.{before, before_all, before_fields, turned}
 use Rattle.wy_code.specs.declared.instructions.Instr.TheVariants as instr
-use Rattle.wy_pieces.specs.declared.steps.Step.{Step}
-use Rattle.wy_pieces.specs.declared.steps.Step.TheVariants.{Does}
-use Rattle.wy_tables.specs.declared.context.Context.{Context}
-use Rattle.wy_tables.specs.Tables.{number_of, target}
-use Rattle.wy_compiled.specs.Expressions as spec
-use Rattle.wy_compiled.specs.Expressions.{code, codes, count_of, field_codes}
-use Rattle.wy_compiled.specs.Straight.{negated_into, into}
-use Rattle.wy_compiled.specs.Operands.{variable_in, read, first_read, second_read, standing, unless_read, plain_or_read}
+use Rattle.wy_code.specs.declared.pieces.steps.Step.{Step}
+use Rattle.wy_code.specs.declared.pieces.steps.Step.TheVariants.{Does}
+use Rattle.wy_code_spec.specs.declared.tables.context.Context.{Context}
+use Rattle.wy_code_spec.specs.tables.Tables.{number_of, target}
+use Rattle.wy_code_spec.specs.compiled.Expressions as spec
+use Rattle.wy_code_spec.specs.compiled.Expressions.{code, codes, count_of, field_codes}
+use Rattle.wy_code_spec.specs.compiled.Straight.{negated_into, into}
+use Rattle.wy_code_spec.specs.compiled.Operands.{variable_in, read, first_read, second_read, standing, unless_read, plain_or_read}
 use Rattle.wy_gen.proofs.SeenLemmas.{seen_call, seen_neg, seen_not, seen_len, seen_binary, seen_is, seen_index, seen_field, seen_list, seen_repeat, seen_record, seen_quant}
 
 -- an operand before the rest, where this is live behind it; it has no code where it is read in its register
@@ -127,10 +128,6 @@ module _ (c : Context) (x : Expr) (all : Bool) (variable : ℕ) (a b body : Expr
   quant_live = operand_live x (tree.QuantExpr x.at all variable (seen_expr a) (seen_expr b) (seen_expr body)) (seen_expr a) live s (before (seen_expr b) (turned variable (seen_expr body) s)) (seen_quant x all variable a b body is) refl bound_live
 
 -- ---- operands in a row
-
-counted : (es : List Expr) → count_of (tree.exprs_of (seen_exprs es)) ≡ length es
-counted [] = refl
-counted (x ∷ es) = ap suc (counted es)
 
 row : (c : Context) (x : Expr) (y : tree.Expr ℕ) (es : tree.Exprs ℕ) (live s : Variables) (d to : ℕ) (rest old steps : List Step) → seen_expr x ≡ y → into c y s d to ≡ codes c es s d ++ rest → live ≡ s → steps ≡ rest ++ old
     → codes c es live d ++ steps ≡ into c (seen_expr x) s d to ++ old

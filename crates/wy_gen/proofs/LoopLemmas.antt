@@ -8,12 +8,12 @@ use Rattle.wy_core.specs.declared.expressions.Expr.{Expr}
 use Rattle.wy_live.specs.Sets.{Variables}
 use Rattle.wy_live.specs.Walks.{before, before_all, before_fields}
 use Rattle.wy_code.specs.declared.instructions.Instr.TheVariants as instr
-use Rattle.wy_pieces.specs.declared.steps.Step.{Step}
-use Rattle.wy_pieces.specs.declared.steps.Step.TheVariants.{Does}
-use Rattle.wy_tables.specs.declared.context.Context.{Context}
-use Rattle.wy_tables.specs.Tables.{number_of}
-use Rattle.wy_compiled.specs.Expressions.{code, codes, field_codes}
-use Rattle.wy_compiled.specs.TypeTests.{field_end, fields_test, test}
+use Rattle.wy_code.specs.declared.pieces.steps.Step.{Step}
+use Rattle.wy_code.specs.declared.pieces.steps.Step.TheVariants.{Does}
+use Rattle.wy_code_spec.specs.declared.tables.context.Context.{Context}
+use Rattle.wy_code_spec.specs.tables.Tables.{number_of}
+use Rattle.wy_code_spec.specs.compiled.Expressions.{code, codes, field_codes}
+use Rattle.wy_code_spec.specs.compiled.TypeTests.{field_end, fields_test, test}
 use Rattle.wy_gen.proofs.TypeLemmas.{field_same}
 
 pub drop_back : {X : Type 0} (xs : List X) (n : ℕ) (x : X) → 0 < n → n ≤ length xs → x ≡ get_or xs (n - 1) x → drop (n - 1) xs ≡ x ∷ drop n xs

@@ -1,14 +1,11 @@
 -- Between two variables that are lost there is none.
-use Rattle.std.proofs.Common.{◌≡◌, ◌⊎◌, inl, inr, ◌<◌, ◌≤◌, ℕ, zero, suc, true, cond, List, [], ◌∷◌, ◌++◌, sym, ap, ◌∙◌, arith}
+use Rattle.std.proofs.Common.{◌≡◌, ◌<◌, ◌≤◌, ℕ, zero, suc, true, cond, List, [], ◌∷◌, ◌++◌, sym, ap, ◌∙◌, arith}
 use Rattle.std.proofs.lemmas.List.{append-nil}
+use Rattle.wy_lemmas.proofs.Choices.{either}
 use Rattle.wy_live.specs.Sets.{Variables}
 use Rattle.wy_live.specs.Lost.{is_lost, NoneLost}
 use Rattle.std.proofs.lemmas.Bool.{cases_lt}
-use Rattle.wy_compiled.specs.Expressions.{lost_below}
-
-either : {A B C : Type 0} → (A → C) → (B → C) → A ⊎ B → C
-either f g (inl a) = f a
-either f g (inr b) = g b
+use Rattle.wy_code_spec.specs.compiled.Expressions.{lost_below}
 
 none_more : (s t : Variables) (m n : ℕ) → m ≤ n → NoneLost s t m n → lost_below s t n ≡ lost_below s t m
 none_more s t m zero le f = let e : zero ≡ m = omega arith in ap (λ k. lost_below s t k) e

@@ -4,10 +4,10 @@ use Rattle.wy_core.specs.CoreTree.{Expr}
 use Rattle.wy_core.specs.declared.expressions.Op.{Op}
 use Rattle.wy_core.specs.declared.expressions.Op.TheVariants as op
 use Rattle.wy_live.specs.Sets.{Variables}
-use Rattle.wy_pieces.specs.declared.steps.Step.{Step}
-use Rattle.wy_tables.specs.declared.context.Context.{Context}
-use Rattle.wy_compiled.specs.Expressions.{code, is_plain, operate, operator, right_register}
-use Rattle.wy_compiled.specs.Operands.{second_read, standing, unless_read, plain_or_read}
+use Rattle.wy_code.specs.declared.pieces.steps.Step.{Step}
+use Rattle.wy_code_spec.specs.declared.tables.context.Context.{Context}
+use Rattle.wy_code_spec.specs.compiled.Expressions.{code, is_plain, operate, operator, right_register}
+use Rattle.wy_code_spec.specs.compiled.Operands.{second_read, standing, unless_read, plain_or_read}
 
 module _ (c : Context) (b : Expr ℕ) (d to l free : ℕ) (s live : Variables) (old behind : List Step) (free_is : free ≡ suc d) (live_is : live ≡ s) where
   same : (place p : Option ℕ) → place ≡ p → (ops : List Step) → behind ≡ ops ++ old → unless_read place (code c b live free) ++ behind ≡ (unless_read p (code c b s (suc d)) ++ ops) ++ old

@@ -10,13 +10,13 @@ use Rattle.wy_code.specs.declared.instructions.Comparison.TheVariants as compari
 use Rattle.wy_code.specs.declared.instructions.Kind.TheVariants as kind
 use Rattle.wy_code.specs.declared.instructions.Scalar.TheVariants as scalar
 use Rattle.wy_code.specs.declared.instructions.Instr.TheVariants as instr
-use Rattle.wy_pieces.specs.declared.steps.Step.{Step}
-use Rattle.wy_pieces.specs.declared.steps.Step.TheVariants.{Does}
-use Rattle.wy_pieces.specs.Steps.{fork, turns, registers_from}
-use Rattle.wy_tables.specs.declared.context.Context.{Context}
-use Rattle.wy_tables.specs.Tables.{names_in, shape_number}
-use Rattle.wy_compiled.specs.TypeTests as tests
-use Rattle.wy_compiled.specs.Expressions as spec
+use Rattle.wy_code.specs.declared.pieces.steps.Step.{Step}
+use Rattle.wy_code.specs.declared.pieces.steps.Step.TheVariants.{Does}
+use Rattle.wy_code.specs.pieces.Steps.{fork, turns, registers_from}
+use Rattle.wy_code_spec.specs.declared.tables.context.Context.{Context}
+use Rattle.wy_code_spec.specs.tables.Tables.{names_in, shape_number}
+use Rattle.wy_code_spec.specs.compiled.TypeTests as tests
+use Rattle.wy_code_spec.specs.compiled.Expressions as spec
 
 -- ---- records
 

@@ -6,15 +6,15 @@ use Rattle.wy_core.specs.declared.expressions.Expr.{Expr}
 use Rattle.wy_live.specs.Sets.{Variables}
 use Rattle.wy_live.specs.Walks.{live_all, nothing}
 use Rattle.wy_live.specs.declared.walk.Ends.{Ends}
-use Rattle.wy_pieces.specs.declared.steps.Step.{Step}
-use Rattle.wy_pieces.specs.Steps.{clear}
-use Rattle.wy_tables.specs.declared.context.Context.{Context}
-use Rattle.wy_tables.specs.Tables.{target}
-use Rattle.wy_compiled.specs.Expressions.{codes, count_of}
-use Rattle.wy_compiled.specs.Statements.{call, call_step, gives_null, stmts_code}
-use Rattle.wy_compiled.specs.Programs.{unused_params}
+use Rattle.wy_code.specs.declared.pieces.steps.Step.{Step}
+use Rattle.wy_code.specs.pieces.Steps.{clear}
+use Rattle.wy_code_spec.specs.declared.tables.context.Context.{Context}
+use Rattle.wy_code_spec.specs.tables.Tables.{target}
+use Rattle.wy_code_spec.specs.compiled.Expressions.{codes, count_of}
+use Rattle.wy_code_spec.specs.compiled.Statements.{call, call_step, gives_null, stmts_code}
+use Rattle.wy_code_spec.specs.compiled.Programs.{unused_params}
 
-counted : (es : List Expr) → count_of (tree.exprs_of (seen_exprs es)) ≡ length es
+pub counted : (es : List Expr) → count_of (tree.exprs_of (seen_exprs es)) ≡ length es
 counted [] = refl
 counted (x ∷ es) = ap suc (counted es)
 

@@ -5,12 +5,12 @@ use Rattle.wy_core.specs.Types as types
 use Rattle.wy_core.specs.declared.types.Ty.{Ty}
 use Rattle.wy_core.specs.declared.types.TyKind as kind
 use Rattle.wy_code.specs.declared.instructions.Instr.TheVariants as instr
-use Rattle.wy_pieces.specs.declared.steps.Step.{Step}
-use Rattle.wy_pieces.specs.declared.steps.Step.TheVariants.{Does}
-use Rattle.wy_pieces.specs.Steps.{fork}
-use Rattle.wy_tables.specs.declared.context.Context.{Context}
-use Rattle.wy_tables.specs.Tables.{number_of, shape_number, ty_names_in}
-use Rattle.wy_compiled.specs.TypeTests.{array_test, field_end, fields_test, items_test, record_test, test}
+use Rattle.wy_code.specs.declared.pieces.steps.Step.{Step}
+use Rattle.wy_code.specs.declared.pieces.steps.Step.TheVariants.{Does}
+use Rattle.wy_code.specs.pieces.Steps.{fork}
+use Rattle.wy_code_spec.specs.declared.tables.context.Context.{Context}
+use Rattle.wy_code_spec.specs.tables.Tables.{number_of, shape_number, ty_names_in}
+use Rattle.wy_code_spec.specs.compiled.TypeTests.{array_test, field_end, fields_test, items_test, record_test, test}
 use Rattle.wy_gen.proofs.SeenLemmas.{seen_record_ty, seen_array_ty, seen_union, seen_inter, seen_not_ty}
 
 -- the steps of the whole are these before the rest

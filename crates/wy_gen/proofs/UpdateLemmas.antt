@@ -11,12 +11,12 @@ use Rattle.wy_live.specs.Sets.{Variables, with}
 use Rattle.wy_live.specs.Walks.{before, before_step, before_steps}
 use Rattle.wy_code.specs.declared.instructions.Slot.{Slot}
 use Rattle.wy_code.specs.declared.instructions.Instr.TheVariants as instr
-use Rattle.wy_pieces.specs.declared.steps.Step.{Step}
-use Rattle.wy_pieces.specs.declared.steps.Step.TheVariants.{Does}
-use Rattle.wy_tables.specs.declared.context.Context.{Context}
-use Rattle.wy_compiled.specs.Expressions.{code}
-use Rattle.wy_compiled.specs.Operands.{read, unless_read}
-use Rattle.wy_compiled.specs.Statements.{index_count, indices, kept, slots, update}
+use Rattle.wy_code.specs.declared.pieces.steps.Step.{Step}
+use Rattle.wy_code.specs.declared.pieces.steps.Step.TheVariants.{Does}
+use Rattle.wy_code_spec.specs.declared.tables.context.Context.{Context}
+use Rattle.wy_code_spec.specs.compiled.Expressions.{code}
+use Rattle.wy_code_spec.specs.compiled.Operands.{read, unless_read}
+use Rattle.wy_code_spec.specs.compiled.Statements.{index_count, indices, kept, slots, update}
 use Rattle.wy_gen.specs.Places.{place_of, places}
 use Rattle.wy_gen.proofs.LoopLemmas.{drop_back}
 

@@ -2,7 +2,7 @@
 use Rattle.std.specs.Prelude.{ℕ, List, map, Option, None}
 use Rattle.wy_core.specs.CoreTree.{Step, IndexStep, FieldStep}
 use Rattle.wy_live.specs.Sets.{Variables}
-use Rattle.wy_compiled.specs.Operands.{read}
+use Rattle.wy_code_spec.specs.compiled.Operands.{read}
 
 -- the variable in whose register the index of a step is read, of an update behind which this is live
 abbrev pub place_of : Step ℕ → Variables → Option ℕ

@@ -2,15 +2,15 @@
 ghost use Rattle.std.specs.Prelude.{◌≡◌, ◌≤◌, ◌++◌, ◌-◌, IfOk, length};
 ghost use Rattle.wy_core.specs.CoreSeen.{seen_block, seen_stmt};
 ghost use Rattle.wy_live.specs.Walks as lives;
-ghost use Rattle.wy_compiled.specs.Statements as spec;
+ghost use Rattle.wy_code_spec.specs.compiled.Statements as spec;
 
 use crate::loops::{Around, Choice, Loop, begin_first, begin_loop, end_choice, end_loop};
 use crate::made::Made;
 use crate::simple::{assign, call, declare, give, gives_null, jump};
 use std::alloc::Global;
+use wy_code::pieces::NoMemory;
+use wy_code_spec::tables::Context;
 use wy_core::{Stmt, StmtKind};
-use wy_pieces::NoMemory;
-use wy_tables::Context;
 
 /// The code of a statement before the code behind it, and what is live before it. The registers from
 /// `free` on are free.

@@ -2,20 +2,20 @@
 ghost use Rattle.std.specs.Prelude.{◌≡◌, ◌∷◌, [], ◌++◌, suc, IfOk};
 ghost use Rattle.wy_code.specs.declared.instructions.Instr.{Instr};
 ghost use Rattle.wy_core.specs.CoreSeen.{seen_expr, seen_ty};
-ghost use Rattle.wy_compiled.specs.Expressions as spec;
-ghost use Rattle.wy_compiled.specs.TypeTests as tests;
-ghost use Rattle.wy_pieces.specs.Steps as pieces;
-ghost use Rattle.wy_tables.specs.Tables as tables;
+ghost use Rattle.wy_code_spec.specs.compiled.Expressions as spec;
+ghost use Rattle.wy_code_spec.specs.compiled.TypeTests as tests;
+ghost use Rattle.wy_code.specs.pieces.Steps as pieces;
+ghost use Rattle.wy_code_spec.specs.tables.Tables as tables;
 
 use crate::made::{Made, plain};
 use crate::operands::read;
 use crate::type_tests::{looks, test};
 use std::alloc::Global;
+use wy_code::pieces::{NoMemory, does, dropped, next, registers_from};
 use wy_code::{Instr, Scalar};
+use wy_code_spec::tables::{Context, Target, called};
 use wy_core::{Expr, Ty};
 use wy_live::Variables;
-use wy_pieces::{NoMemory, does, dropped, next, registers_from};
-use wy_tables::{Context, Target, called};
 
 /// A call on the arguments in so many registers.
 pub fn call(

@@ -2,9 +2,9 @@
 ghost use Rattle.std.specs.Prelude.{◌≡◌, ◌++◌, IfOk};
 ghost use Rattle.wy_core.specs.CoreSeen.{seen_expr, seen_exprs, seen_fields};
 ghost use Rattle.wy_core.specs.CoreTree.{exprs_of};
-ghost use Rattle.wy_compiled.specs.Expressions as spec;
-ghost use Rattle.wy_compiled.specs.Operands as operands;
-ghost use Rattle.wy_compiled.specs.Straight as straight;
+ghost use Rattle.wy_code_spec.specs.compiled.Expressions as spec;
+ghost use Rattle.wy_code_spec.specs.compiled.Operands as operands;
+ghost use Rattle.wy_code_spec.specs.compiled.Straight as straight;
 ghost use Rattle.wy_live.specs.Walks as lives;
 
 use crate::calls::{call, tested, tested_read};
@@ -15,11 +15,11 @@ use crate::operands::{
 use crate::operators::{begin_and, end_and, end_or, operator};
 use crate::quantifiers::{Begun, begin_quantifier, end_quantifier};
 use std::alloc::Global;
+use wy_code::pieces::{NoMemory, next, registers_from};
 use wy_code::{Arithmetic, Instr, Scalar};
+use wy_code_spec::tables::{Context, name_number, shape_number};
 use wy_core::{Expr, ExprKind, Op};
 use wy_data::Name;
-use wy_pieces::{NoMemory, next, registers_from};
-use wy_tables::{Context, name_number, shape_number};
 
 /// The code of an expression before the code behind it, and what is live before it. The value comes
 /// into the register, and those behind it are free. It goes through each node once, and once more

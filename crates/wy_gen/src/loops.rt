@@ -1,20 +1,20 @@
 //! The code of `if` and `while` around that of their blocks.
 ghost use Rattle.std.specs.Prelude.{◌≡◌, ◌++◌, ◌∷◌, suc, List, IfOk, length};
 ghost use Rattle.wy_core.specs.CoreSeen.{seen_block, seen_expr};
-ghost use Rattle.wy_compiled.specs.Statements as spec;
-ghost use Rattle.wy_compiled.specs.Expressions as expressions;
+ghost use Rattle.wy_code_spec.specs.compiled.Statements as spec;
+ghost use Rattle.wy_code_spec.specs.compiled.Expressions as expressions;
 ghost use Rattle.wy_live.specs.Sets as sets;
 ghost use Rattle.wy_live.specs.Walks as lives;
-ghost use Rattle.wy_pieces.specs.Steps as pieces;
-ghost use Rattle.wy_pieces.specs.declared.steps.Step.{Step};
+ghost use Rattle.wy_code.specs.pieces.Steps as pieces;
+ghost use Rattle.wy_code.specs.declared.pieces.steps.Step.{Step};
 
 use crate::expressions::code;
 use crate::made::{Made, is_plain, release_unless, released};
 use std::alloc::Global;
+use wy_code::pieces::{NoMemory, Steps, begin_turns, end_turns, fork, jump_over, leave_turns};
+use wy_code_spec::tables::Context;
 use wy_core::{Expr, Stmt};
 use wy_live::{Ends, Variables, head_live, joined, live_block};
-use wy_pieces::{NoMemory, Steps, begin_turns, end_turns, fork, jump_over, leave_turns};
-use wy_tables::Context;
 
 /// What is live behind the loop around and at its head, and how many steps stand behind the end of
 /// the loop and from its step back on.

@@ -2,16 +2,16 @@
 ghost use Rattle.std.specs.Prelude.{◌≡◌, ◌+◌, ◌∷◌, ◌++◌, suc, cond, IfOk};
 ghost use Rattle.wy_core.specs.CoreSeen.{seen_expr};
 ghost use Rattle.wy_code.specs.declared.instructions.Instr.{Instr};
-ghost use Rattle.wy_compiled.specs.Expressions as spec;
+ghost use Rattle.wy_code_spec.specs.compiled.Expressions as spec;
 ghost use Rattle.wy_live.specs.Sets as sets;
-ghost use Rattle.wy_pieces.specs.Steps as pieces;
+ghost use Rattle.wy_code.specs.pieces.Steps as pieces;
 
 use std::alloc::Global;
 use wy_code::Instr;
+use wy_code::pieces::{NoMemory, Steps, clear, clear_one, does};
 use wy_core::{Expr, ExprKind, Op};
 use wy_items::Items;
 use wy_live::{Variables, next_lost};
-use wy_pieces::{NoMemory, Steps, clear, clear_one, does};
 
 /// Code before a point, and what is live there.
 #[derive(Drop)]

@@ -6,13 +6,13 @@
 //! that stays in a register holds no memory. Each of these asks in constant time.
 ghost use Rattle.std.specs.Prelude.{◌≡◌, IfOk};
 ghost use Rattle.wy_core.specs.CoreSeen.{seen_expr};
-ghost use Rattle.wy_compiled.specs.Operands as spec;
+ghost use Rattle.wy_code_spec.specs.compiled.Operands as spec;
 ghost use Rattle.wy_live.specs.Walks as lives;
 
 use crate::made::Made;
+use wy_code::pieces::NoMemory;
 use wy_core::{Expr, ExprKind, Op};
 use wy_live::Variables;
-use wy_pieces::NoMemory;
 
 /// The variable that an expression is.
 pub fn variable_in(expr: &Expr) -> Option<u32>

@@ -1,17 +1,17 @@
 //! The code of operators.
 ghost use Rattle.std.specs.Prelude.{◌≡◌, [], ◌++◌, IfOk, List, length, suc};
 ghost use Rattle.wy_core.specs.CoreSeen.{seen_expr};
-ghost use Rattle.wy_compiled.specs.Expressions as spec;
+ghost use Rattle.wy_code_spec.specs.compiled.Expressions as spec;
 ghost use Rattle.wy_live.specs.Walks as lives;
-ghost use Rattle.wy_pieces.specs.Steps as pieces;
-ghost use Rattle.wy_pieces.specs.declared.steps.Step.{Step};
+ghost use Rattle.wy_code.specs.pieces.Steps as pieces;
+ghost use Rattle.wy_code.specs.declared.pieces.steps.Step.{Step};
 
 use crate::made::{Made, plain, release_unless, released};
 use std::alloc::Global;
+use wy_code::pieces::{NoMemory, does, fork, jump_over, where_true};
 use wy_code::{Arithmetic, Comparison, Instr};
 use wy_core::{Expr, Op};
 use wy_live::Variables;
-use wy_pieces::{NoMemory, does, fork, jump_over, where_true};
 
 /// Behind the right side of `&&`: what that side alone uses is released, since it may be left out.
 pub fn begin_and(alloc: Global, right: &Expr, behind: Made) -> Result<Made, NoMemory>

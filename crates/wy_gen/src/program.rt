@@ -2,11 +2,11 @@
 ghost use Rattle.std.specs.Prelude.{◌≡◌, ◌++◌, [], All, IfOk, length, map, max};
 ghost use Rattle.wy_core.specs.CoreSeen.{seen_alias, seen_core, seen_decl, seen_expr, seen_exprs, seen_param, seen_routine};
 ghost use Rattle.wy_core.specs.CoreTree.{aliases_of, routines_of};
-ghost use Rattle.wy_compiled.specs.Fields.{HasFields};
-ghost use Rattle.wy_compiled.specs.Programs as spec;
-ghost use Rattle.wy_compiled.specs.Ranges.{CallsBelow, IsFramed, IsNamed};
-ghost use Rattle.wy_formed.specs.Bound.{Bound};
-ghost use Rattle.wy_compiled.specs.Expressions as expressions;
+ghost use Rattle.wy_code_spec.specs.compiled.Fields.{HasFields};
+ghost use Rattle.wy_code_spec.specs.compiled.Programs as spec;
+ghost use Rattle.wy_code_spec.specs.compiled.Ranges.{CallsBelow, IsFramed, IsNamed};
+ghost use Rattle.wy_core.specs.formed.Bound.{Bound};
+ghost use Rattle.wy_code_spec.specs.compiled.Expressions as expressions;
 ghost use Rattle.wy_live.specs.Sets as sets;
 ghost use Rattle.wy_value.specs.Shapes.{IsShapes};
 
@@ -17,12 +17,12 @@ use crate::made::Made;
 use crate::simple::gives_null;
 use crate::type_tests::test;
 use std::alloc::Global;
+use wy_code::pieces::{NoMemory, Steps, clear, does, dropped, next, routine_of, where_true};
 use wy_code::{Code, Instr, Routine as Compiled};
+use wy_code_spec::tables::{Context, context_of};
 use wy_core::{Alias, Core, Decl, Expr, Param, Routine};
 use wy_items::Items;
 use wy_live::{Variables, nothing};
-use wy_pieces::{NoMemory, Steps, clear, does, dropped, next, routine_of, where_true};
-use wy_tables::{Context, context_of};
 
 /// The code of a program. The function or method with the number k has the routine k, and the
 /// routines behind these test the declared types, in their order.

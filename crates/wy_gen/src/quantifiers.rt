@@ -1,16 +1,18 @@
 //! The code of quantifiers around that of their bodies.
 ghost use Rattle.std.specs.Prelude.{◌≡◌, ◌+◌, ◌∷◌, ◌++◌, IfOk, List, length, suc};
 ghost use Rattle.wy_core.specs.CoreSeen.{seen_expr};
-ghost use Rattle.wy_compiled.specs.Expressions as spec;
+ghost use Rattle.wy_code_spec.specs.compiled.Expressions as spec;
 ghost use Rattle.wy_live.specs.Walks as lives;
-ghost use Rattle.wy_pieces.specs.declared.steps.Step.{Step};
+ghost use Rattle.wy_code.specs.declared.pieces.steps.Step.{Step};
 
 use crate::made::{Made, released};
 use std::alloc::Global;
+use wy_code::pieces::{
+    NoMemory, Step, Steps, begin_turns, does, end_turns, leave_turns, next, prepend,
+};
 use wy_code::{Arithmetic, Comparison, Instr, Scalar};
 use wy_core::Expr;
 use wy_live::{Variables, turned};
-use wy_pieces::{NoMemory, Step, Steps, begin_turns, does, end_turns, leave_turns, next, prepend};
 
 /// A quantifier behind whose body all is made: what is live there and before the body, the register
 /// of what the body says, and how many steps stand behind the turns.

@@ -4,20 +4,20 @@ ghost use Rattle.wy_core.specs.CoreSeen.{seen_expr, seen_exprs, seen_option, see
 ghost use Rattle.wy_core.specs.CoreTree.{exprs_of};
 ghost use Rattle.wy_live.specs.Sets as sets;
 ghost use Rattle.wy_live.specs.Walks as lives;
-ghost use Rattle.wy_compiled.specs.Statements as spec;
-ghost use Rattle.wy_pieces.specs.declared.steps.Step.{Step};
-ghost use Rattle.wy_tables.specs.Tables as tables;
+ghost use Rattle.wy_code_spec.specs.compiled.Statements as spec;
+ghost use Rattle.wy_code.specs.declared.pieces.steps.Step.{Step};
+ghost use Rattle.wy_code_spec.specs.tables.Tables as tables;
 
 use crate::expressions::{code, codes, into};
 use crate::made::{Made, is_plain, plain, release_unless};
 use crate::straight::is_straight;
 use crate::updates::update;
 use std::alloc::Global;
+use wy_code::pieces::{NoMemory, Step, Steps, clear_one, does, prepend, registers_from};
 use wy_code::{Instr, Scalar};
+use wy_code_spec::tables::{Context, Target, called};
 use wy_core::{Expr, Step as PathStep};
 use wy_live::Variables;
-use wy_pieces::{NoMemory, Step, Steps, clear_one, does, prepend, registers_from};
-use wy_tables::{Context, Target, called};
 
 /// A step over what stands before so many others, where this is live.
 pub fn jump(live: Variables, end: usize, behind: Made) -> Result<Made, NoMemory>

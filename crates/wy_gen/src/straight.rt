@@ -3,7 +3,7 @@
 //! Each question is answered in constant time.
 ghost use Rattle.std.specs.Prelude.{◌≡◌};
 ghost use Rattle.wy_core.specs.CoreSeen.{seen_expr};
-ghost use Rattle.wy_compiled.specs.Straight as spec;
+ghost use Rattle.wy_code_spec.specs.compiled.Straight as spec;
 
 use crate::operands::read;
 use wy_core::{Expr, ExprKind, Op};

@@ -1,21 +1,21 @@
 //! The code of tests of types.
 ghost use Rattle.std.specs.Prelude.{◌≡◌, ◌∷◌, [], ◌++◌, suc, IfOk, List, length, map};
 ghost use Rattle.wy_core.specs.CoreSeen.{seen_ty, field_tys_of};
-ghost use Rattle.wy_compiled.specs.TypeTests as spec;
-ghost use Rattle.wy_pieces.specs.Steps as pieces;
-ghost use Rattle.wy_pieces.specs.declared.steps.Step.{Step};
-ghost use Rattle.wy_tables.specs.Tables as tables;
+ghost use Rattle.wy_code_spec.specs.compiled.TypeTests as spec;
+ghost use Rattle.wy_code.specs.pieces.Steps as pieces;
+ghost use Rattle.wy_code.specs.declared.pieces.steps.Step.{Step};
+ghost use Rattle.wy_code_spec.specs.tables.Tables as tables;
 
 use std::alloc::Global;
-use wy_code::{Arithmetic, Comparison, Instr, Kind, Scalar};
-use wy_core::{Ty, TyKind};
-use wy_data::Name;
-use wy_items::Items;
-use wy_pieces::{
+use wy_code::pieces::{
     NoMemory, Step, Steps, begin_turns, does, dropped, end_turns, fork, jump_over, leave_turns,
     next, prepend, where_true,
 };
-use wy_tables::{Context, name_number, shape_number};
+use wy_code::{Arithmetic, Comparison, Instr, Kind, Scalar};
+use wy_code_spec::tables::{Context, name_number, shape_number};
+use wy_core::{Ty, TyKind};
+use wy_data::Name;
+use wy_items::Items;
 
 /// Whether the value in `value`, which stays there, is in the type comes into `answer`; the registers
 /// from `free` on are free. It recurses as deep as the type nests, and goes through each node once.

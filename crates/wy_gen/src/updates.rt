@@ -4,20 +4,20 @@ ghost use Rattle.wy_core.specs.CoreSeen.{seen_expr, seen_step};
 ghost use Rattle.wy_core.specs.CoreTree as tree;
 ghost use Rattle.wy_live.specs.Sets as sets;
 ghost use Rattle.wy_live.specs.Walks as lives;
-ghost use Rattle.wy_compiled.specs.Statements as spec;
+ghost use Rattle.wy_code_spec.specs.compiled.Statements as spec;
 ghost use Rattle.wy_gen.specs.Places as reads;
-ghost use Rattle.wy_pieces.specs.declared.steps.Step as steps;
+ghost use Rattle.wy_code.specs.declared.pieces.steps.Step as steps;
 
 use crate::expressions::{code, operand_code};
 use crate::made::{Made, plain, previous, register_at};
 use crate::operands::{read, standing};
 use std::alloc::Global;
+use wy_code::pieces::{NoMemory, clear_one, next};
 use wy_code::{Instr, Slot};
+use wy_code_spec::tables::{Context, name_number};
 use wy_core::{Expr, Step, StepKind};
 use wy_items::Items;
 use wy_live::Variables;
-use wy_pieces::{NoMemory, clear_one, next};
-use wy_tables::{Context, name_number};
 
 /// `x[i].f = e`: the indices, the value, and the update; where the variable isn't live behind, what
 /// it holds is released. An index that is a variable which is live behind the update is read in its

@@ -1,10 +1,10 @@
 -- The code of an accepted program does what the program does.
 use Rattle.std.proofs.Common.{ℕ, map, subst}
 use Rattle.wy_core.specs.CoreTree.{aliases_of}
-use Rattle.wy_sem.specs.Evaluation.{Callee}
-use Rattle.wy_sem.specs.Precondition.{CalleeMeets, RoutineMeets}
-use Rattle.wy_sound_runs.proofs.ProperLemmas.{values_proper}
-use Rattle.wy_sound_runs.proofs.RunLemmas.{run_rightly}
+use Rattle.wy_sound.specs.wy_sem.Evaluation.{Callee}
+use Rattle.wy_sound.specs.wy_sem.Precondition.{CalleeMeets, RoutineMeets}
+use Rattle.wy_top.proofs.wy_mach_run_proofs.sound_lemmas.ProperLemmas.{values_proper}
+use Rattle.wy_top.proofs.wy_mach_run_proofs.sound_lemmas.RunLemmas.{run_rightly}
 use Rattle.wy_value.specs.Seen.{seen}
 use Rattle.wy_headline.specs.Sources.{AcceptedSourcesRunRightly, ShownProgramsRunRightly}
 use Rattle.wy_headline.proofs.FaultLemmas.{faultless, values_bounded}

@@ -1,12 +1,12 @@
 -- The commands that run programs, put together.
 use Rattle.std.proofs.Common.{◌≡◌, ◌⊎◌, inl, inr, ℕ, List, Bool, Ok, Err, sym, ap, subst}
-use Rattle.wy_answers.specs.Showing.{Shown, Sinks}
-use Rattle.wy_answers.specs.Steps.{Came, EndsFree, EndsOutside, Follows, IsFree, IsOutside, Setting, answer_in, ends, failed, from_outside, goes_on, memory, stated, uncertified}
-use Rattle.wy_answers.specs.declared.answer.Answer.{Answer}
-use Rattle.wy_big.specs.Source.{argument_text, entry}
-use Rattle.wy_running.specs.Running.{state_of}
-use Rattle.wy_step.specs.Step.{State, Runs, Ended, Stuck}
-use Rattle.wy_supplied.specs.Certificates.{no_file}
+use Rattle.wy_top.specs.wy_top_answers.Showing.{Shown, Sinks}
+use Rattle.wy_top.specs.wy_top_answers.Steps.{Came, EndsFree, EndsOutside, Follows, IsFree, IsOutside, Setting, answer_in, ends, failed, from_outside, goes_on, memory, stated, uncertified}
+use Rattle.wy_top.specs.wy_top_answers.declared.answer.Answer.{Answer}
+use Rattle.wy_top_big.specs.Source.{argument_text, entry}
+use Rattle.wy_top.specs.wy_mach_run.Running.{state_of}
+use Rattle.wy_top.specs.wy_code_spec.step.Step.{State, Runs, Ended, Stuck}
+use Rattle.wy_top.specs.wy_top_answers.supplied.Certificates.{no_file}
 use Rattle.wy_top.specs.Acceptance.{Acceptance, accepts_source}
 use Rattle.wy_top.specs.Exact.{IsElse}
 use Rattle.wy_top.specs.Large.{big_steps, finishes, finishes_in, large_name, runs}

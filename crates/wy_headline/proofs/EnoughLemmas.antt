@@ -1,13 +1,13 @@
 -- Where there are steps enough, the run is done.
 use Rattle.std.proofs.Common.{◌≡◌, inl, inr, ℕ, ◌+◌, List, Option, sym, ap, ◌∙◌, arith}
-use Rattle.wy_eval_expressions.specs.Settings.{here}
+use Rattle.wy_top.specs.wy_eval_exprs.Settings.{here}
 use Rattle.wy_port.specs.Taken.{with_taken}
-use Rattle.wy_running.specs.Running.{written}
-use Rattle.wy_sem.specs.Evaluation.{evaluate}
-use Rattle.wy_sem.specs.Growth.{Returns, ending}
-use Rattle.wy_sem.specs.Meter.{Meter, Done}
-use Rattle.wy_sem.specs.Operations.{or_null}
-use Rattle.wy_sem.proofs.Growth.{is_unique}
+use Rattle.wy_top.specs.wy_mach_run.Running.{written}
+use Rattle.wy_sound.specs.wy_sem.Evaluation.{evaluate}
+use Rattle.wy_sound.specs.wy_sem.Growth.{Returns, ending}
+use Rattle.wy_sound.specs.wy_sem.Meter.{Meter, Done}
+use Rattle.wy_sound.specs.wy_sem.Operations.{or_null}
+use Rattle.wy_sound.proofs.wy_sem_proofs.Growth.{is_unique}
 use Rattle.wy_value.specs.Datum.{Datum}
 use Rattle.wy_headline.specs.Runs.{EnoughStepsEnd, Entry, IsDone, finished, no_memory, sink_failed, spends}
 

@@ -6,16 +6,16 @@ use Rattle.wy_value.specs.Values.{AreValues}
 use Rattle.wy_value.specs.declared.value.Value.{Value}
 use Rattle.wy_core.specs.CoreTree.{Core, Output, Routine, aliases_of, routines_of}
 use Rattle.wy_core.specs.Types.{Ty}
-use Rattle.wy_sem.specs.Meter.{Outcome, Done, Fault, More, Spent}
-use Rattle.wy_sem.specs.TypeTests.{clause_setting}
-use Rattle.wy_sem.specs.Precondition.{AreTrue, Meets}
-use Rattle.wy_sem.specs.Evaluation.{Declared, callee, entry_of, evaluate}
-use Rattle.wy_simulated_programs.specs.Programs.{NoFault}
+use Rattle.wy_sound.specs.wy_sem.Meter.{Outcome, Done, Fault, More, Spent}
+use Rattle.wy_sound.specs.wy_sem.TypeTests.{clause_setting}
+use Rattle.wy_sound.specs.wy_sem.Precondition.{AreTrue, Meets}
+use Rattle.wy_sound.specs.wy_sem.Evaluation.{Declared, callee, entry_of, evaluate}
+use Rattle.wy_top.specs.wy_gen_laws.programs.Programs.{NoFault}
 use Rattle.wy_sound.specs.Sound.{IsReturned, IsSound, Shown}
 use Rattle.wy_sound.proofs.SoundLemmas.{programs_sound}
-use Rattle.wy_sound_kinds.specs.Bounded.{AllBounded}
-use Rattle.wy_sound_kinds.proofs.DatumLemmas.{values_are_bounded}
-use Rattle.wy_sound_runs.specs.Results.{Fulfils, IsFaultless, IsResult, with_result}
+use Rattle.wy_sound.specs.wy_sound_kinds.Bounded.{AllBounded}
+use Rattle.wy_sound.proofs.wy_sound_kinds_proofs.DatumLemmas.{values_are_bounded}
+use Rattle.wy_top.specs.wy_mach_run.sound.Results.{Fulfils, IsFaultless, IsResult, with_result}
 
 pub values_bounded : (vs : List Value) → AreValues (seen_items vs) → AllBounded (map seen vs)
 values_bounded [] h = tt

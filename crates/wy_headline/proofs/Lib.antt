@@ -7,3 +7,4 @@ pub mod EnoughLemmas
 pub mod CommandLemmas
 pub mod SeenLemmas
 pub mod MeansLemmas
+pub mod due_lemmas

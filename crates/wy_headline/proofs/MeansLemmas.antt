@@ -1,11 +1,11 @@
 -- What a call means, put together.
 use Rattle.std.proofs.Common.{◌⊎◌, inl, inr, ℕ, List, Option, Some, None}
-use Rattle.wy_answers.specs.Answers.{no_memory}
-use Rattle.wy_answers.specs.Showing.{Shown, Sinks}
-use Rattle.wy_answers.specs.Steps.{Setting}
+use Rattle.wy_top.specs.wy_top_answers.Answers.{no_memory}
+use Rattle.wy_top.specs.wy_top_answers.Showing.{Shown, Sinks}
+use Rattle.wy_top.specs.wy_top_answers.Steps.{Setting}
 use Rattle.wy_top.specs.Saves.{Saving}
 use Rattle.wy_top.specs.Statement.{Comes, Does, DoesIf}
-use Rattle.wy_words.specs.CommandLine.{Asked, check, run, prove, conds, fmt, dis, big, command_of}
+use Rattle.wy_top_words.specs.CommandLine.{Asked, check, run, prove, conds, fmt, dis, big, command_of}
 use Rattle.wy_headline.specs.Means.{CallsMean, MeansAsked, MeansIf}
 use Rattle.wy_headline.proofs.CommandLemmas.{large_right, runs_right}
 use Rattle.wy_headline.proofs.SeenLemmas.{never_sticks}

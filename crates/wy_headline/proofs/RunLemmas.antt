@@ -1,10 +1,10 @@
 -- What a run shows, said by what the program does.
 use Rattle.std.proofs.Common.{ℕ, List, Bool, Option, refl}
-use Rattle.wy_answers.specs.Showing.{Sinks}
-use Rattle.wy_eval_expressions.specs.Settings.{here}
-use Rattle.wy_running.specs.Running.{WritesFront, written}
-use Rattle.wy_sound_runs.specs.Runs.{IsRight}
-use Rattle.wy_step.specs.Step.{State, Runs, Ended, Stuck}
+use Rattle.wy_top.specs.wy_top_answers.Showing.{Sinks}
+use Rattle.wy_top.specs.wy_eval_exprs.Settings.{here}
+use Rattle.wy_top.specs.wy_mach_run.Running.{WritesFront, written}
+use Rattle.wy_top.specs.wy_mach_run.sound.Runs.{IsRight}
+use Rattle.wy_top.specs.wy_code_spec.step.Step.{State, Runs, Ended, Stuck}
 use Rattle.wy_top.specs.Runs as code
 use Rattle.wy_headline.specs.Runs.{Entry, TookOfRun, so_far, in_all, ShowsRun, finished, spends, sink_failed, no_memory}
 

@@ -1,21 +1,21 @@
 -- Status 13 comes of `prove` alone, for a condition that was found and not certified.
 use Rattle.std.proofs.Common.{◌≡◌, ◌≢◌, ◌⊎◌, inl, inr, ℕ, List, [], Bool, true, false, Option, Some, None, Ok, Err, refl, sym, ◌∙◌, ap, subst, arith}
-use Rattle.wy_answers.specs.Answers.{refused, no_memory}
-use Rattle.wy_answers.specs.Calls.{Faults, IsFaulted}
-use Rattle.wy_answers.specs.Loading.{loaded}
-use Rattle.wy_answers.specs.Showing.{Shown, Sinks}
-use Rattle.wy_answers.specs.Steps.{Came, EndsOutside, Follows, goes_on, ends, IsOutside, Sense, Setting, answer_in, failed, memory, stated}
-use Rattle.wy_answers.specs.Texts.{load_status, load_text, not_certified}
-use Rattle.wy_answers.specs.declared.answer.Answer.{Answer}
-use Rattle.wy_cert.specs.Steps.{Certificates}
+use Rattle.wy_top.specs.wy_top_answers.Answers.{refused, no_memory}
+use Rattle.wy_top.specs.wy_top_answers.Calls.{Faults, IsFaulted}
+use Rattle.wy_top.specs.wy_top_answers.Loading.{loaded}
+use Rattle.wy_top.specs.wy_top_answers.Showing.{Shown, Sinks}
+use Rattle.wy_top.specs.wy_top_answers.Steps.{Came, EndsOutside, Follows, goes_on, ends, IsOutside, Sense, Setting, answer_in, failed, memory, stated}
+use Rattle.wy_top.specs.wy_top_answers.Texts.{load_status, load_text, not_certified}
+use Rattle.wy_top.specs.wy_top_answers.declared.answer.Answer.{Answer}
+use Rattle.wy_top.specs.wy_cert.Steps.{Certificates}
 use Rattle.wy_port.specs.Taken.{with_taken}
 use Rattle.wy_port.specs.declared.files.LoadFault.{LoadFault}
 use Rattle.wy_port.specs.declared.files.LoadFault.TheVariants as load
-use Rattle.wy_running.specs.declared.fault.StartFault.{StartFault}
-use Rattle.wy_running.specs.declared.fault.StartFault.TheVariants as start
-use Rattle.wy_supplied.specs.Certificates.{certificates, from_file, no_file, without}
-use Rattle.wy_report.specs.Lines.{save_failed, words_refused}
-use Rattle.wy_big.specs.Source.{argument_text, entry}
+use Rattle.wy_top.specs.wy_mach_run.declared.fault.StartFault.{StartFault}
+use Rattle.wy_top.specs.wy_mach_run.declared.fault.StartFault.TheVariants as start
+use Rattle.wy_top.specs.wy_top_answers.supplied.Certificates.{certificates, from_file, no_file, without}
+use Rattle.wy_top.specs.wy_top_answers.report.Lines.{save_failed, words_refused}
+use Rattle.wy_top_big.specs.Source.{argument_text, entry}
 use Rattle.wy_top.specs.Acceptance.{Acceptance, accepts, accepts_file, accepts_source, are_closed, check_steps}
 use Rattle.wy_top.specs.Known.{Known}
 use Rattle.wy_top.specs.Large.{large_name, makes_one}
@@ -28,7 +28,7 @@ use Rattle.wy_top.specs.Statement.{Does, DoesIf, IsAnswered, ShowsProof}
 use Rattle.wy_top.specs.Texts.{text, text_steps}
 use Rattle.wy_top.specs.declared.texts.Text.{Text}
 use Rattle.wy_top.specs.declared.texts.Text.TheVariants as kind_of
-use Rattle.wy_words.specs.CommandLine.{Asked, check, run, prove, conds, fmt, dis, big, command_of}
+use Rattle.wy_top_words.specs.CommandLine.{Asked, check, run, prove, conds, fmt, dis, big, command_of}
 use Rattle.wy_headline.specs.Commands.{AnswersLarge, ComesToLarge, ComesToRun, large_start, line_written, ran, ran_large, refused_large, refused_run, steps_spend}
 use Rattle.wy_headline.specs.Runs as of_runs
 use Rattle.wy_headline.specs.Runs.{Entry}

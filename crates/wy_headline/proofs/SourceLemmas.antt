@@ -1,14 +1,14 @@
 -- The program of a source has all that the laws ask for.
 use Rattle.std.proofs.Common.{ℕ, subst}
-use Rattle.wy_assign.specs.Assigned.{IsAssigned}
+use Rattle.wy_sound.specs.wy_assign.Assigned.{IsAssigned}
 use Rattle.wy_core.specs.CoreTree.{Core}
-use Rattle.wy_formed.specs.Formed.{Formed}
-use Rattle.wy_sound_typing.specs.Sources.{Sourced}
-use Rattle.wy_source_ints.proofs.FormedInts.{source-formed}
-use Rattle.wy_sourced_code.specs.Cores.{AsCodeAsks}
-use Rattle.wy_sourced_code.proofs.SourceLemmas.{spelled_as_asked}
-use Rattle.wy_sourced_programs.proofs.SourceLemmas.{spelled_sourced}
-use Rattle.wy_typing.specs.Programs.{IsTyped}
+use Rattle.wy_core.specs.formed.Formed.{Formed}
+use Rattle.wy_sound.specs.typing.Sources.{Sourced}
+use Rattle.wy_top.proofs.wy_gen_sources_proofs.source_ints_lemmas.FormedInts.{source-formed}
+use Rattle.wy_top.specs.wy_gen_sources.sourced_code.Cores.{AsCodeAsks}
+use Rattle.wy_top.proofs.wy_gen_sources_proofs.sourced_code_lemmas.SourceLemmas.{spelled_as_asked}
+use Rattle.wy_sound.proofs.sources_lemmas.SourceLemmas.{spelled_sourced}
+use Rattle.wy_sound.specs.wy_flow_spec.typing.Programs.{IsTyped}
 use Rattle.wy_headline.specs.Sources.{SourcesAreShown}
 
 pub source_shown : SourcesAreShown

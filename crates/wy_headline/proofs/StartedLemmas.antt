@@ -1,22 +1,23 @@
 -- Which program was started, read off the steps of a command; and that its run is right.
 use Rattle.std.proofs.Common.{◌≡◌, ℕ, zero, suc, List, [], ◌∷◌, map, Option, Some, None, Ok, Err, sym, ap, subst}
 use Rattle.std.specs.Prelude.{slice_get}
-use Rattle.wy_answers.specs.Steps.{Came, Follows, goes_on, ends, Setting, stated}
-use Rattle.wy_answers.specs.declared.answer.Answer.{Answer}
-use Rattle.wy_cert.specs.Steps.{Certificates}
+use Rattle.wy_top.specs.wy_top_answers.Steps.{Came, Follows, goes_on, ends, Setting, stated}
+use Rattle.wy_top.specs.wy_top_answers.declared.answer.Answer.{Answer}
+use Rattle.wy_top.specs.wy_cert.Steps.{Certificates}
 use Rattle.wy_core.specs.CoreTree.{Routine, routines_of}
-use Rattle.wy_eval_expressions.specs.Settings.{here}
-use Rattle.wy_mach.specs.Running.{LacksNone}
-use Rattle.wy_running.specs.Running.{state_of}
-use Rattle.wy_running.specs.Starting.{Starts}
-use Rattle.wy_running.specs.declared.parts.Start.{Start}
-use Rattle.wy_sem.specs.Evaluation.{Declared, callee}
-use Rattle.wy_shown_conditions.specs.Certified.{AllHold}
-use Rattle.wy_simulated_programs.specs.Programs.{IsStuck}
-use Rattle.wy_sound_runs.specs.Runs.{RunsRightly}
-use Rattle.wy_step.specs.Step.{State, Runs, Ended, Stuck}
+use Rattle.wy_top.specs.wy_eval_exprs.Settings.{here}
+use Rattle.wy_lemmas.proofs.Options.{some_is}
+use Rattle.wy_top.specs.wy_mach.Running.{LacksNone}
+use Rattle.wy_top.specs.wy_mach_run.Running.{state_of}
+use Rattle.wy_top.specs.wy_mach_run.Starting.{Starts}
+use Rattle.wy_top.specs.wy_mach_run.declared.parts.Start.{Start}
+use Rattle.wy_sound.specs.wy_sem.Evaluation.{Declared, callee}
+use Rattle.wy_sound.specs.wy_vc_laws.shown.Certified.{AllHold}
+use Rattle.wy_top.specs.wy_gen_laws.programs.Programs.{IsStuck}
+use Rattle.wy_top.specs.wy_mach_run.sound.Runs.{RunsRightly}
+use Rattle.wy_top.specs.wy_code_spec.step.Step.{State, Runs, Ended, Stuck}
 use Rattle.wy_headline.proofs.AcceptedLemmas.{sources_rightly}
-use Rattle.wy_supplied.specs.Certificates.{certificates}
+use Rattle.wy_top.specs.wy_top_answers.supplied.Certificates.{certificates}
 use Rattle.wy_top.specs.Acceptance.{Acceptance, IsAccepted, accepts_file, accepts_source}
 use Rattle.wy_top.specs.Going.{AcceptedRunsGo}
 use Rattle.wy_top.specs.Launching.{run_steps}
@@ -71,9 +72,6 @@ run_of_steps s source cert name arguments budget l h = let f = both_came _ _ l h
 
 no_some : {X : Type 0} (x : X) → (let n : Option X = None in n ≡ Some x) → ⊥
 no_some x e = absurd cc
-
-some_is : {X : Type 0} (x y : X) → Some x ≡ Some y → x ≡ y
-some_is x y e = cc
 
 callee_at : (rs : List (Routine ℕ)) (f : ℕ) (r : Routine ℕ) → slice_get rs f ≡ Some r → callee rs f ≡ Declared r
 callee_at [] f r e = absurd (no_some r e)

@@ -1,19 +1,19 @@
 -- What do the commands that run programs come to?
 use Rattle.std.specs.Prelude.{◌≡◌, ◌⊎◌, ◌++◌, ◌≤◌, ℕ, List, length, map, Bool, Ok, Err}
-use Rattle.wy_answers.specs.Answers.{refused, written as writes}
-use Rattle.wy_answers.specs.Loading.{source_limit}
-use Rattle.wy_answers.specs.Showing.{Shown, Sinks}
-use Rattle.wy_answers.specs.Steps.{Came, IsOutside, IsTold, Sense, Setting, and_then, due, stated}
-use Rattle.wy_answers.specs.declared.answer.Answer.{Answer}
-use Rattle.wy_big.specs.Source.{argument_text, entry, source_of}
+use Rattle.wy_top.specs.wy_top_answers.Answers.{refused, written as writes}
+use Rattle.wy_top.specs.wy_top_answers.Loading.{source_limit}
+use Rattle.wy_top.specs.wy_top_answers.Showing.{Shown, Sinks}
+use Rattle.wy_top.specs.wy_top_answers.Steps.{Came, IsOutside, IsTold, Sense, Setting, and_then, due, stated}
+use Rattle.wy_top.specs.wy_top_answers.declared.answer.Answer.{Answer}
+use Rattle.wy_top_big.specs.Source.{argument_text, entry, source_of}
 use Rattle.wy_core.specs.CoreTree.{Core}
-use Rattle.wy_eval_expressions.specs.Settings.{here}
-use Rattle.wy_report.specs.Lines.{steps_spent}
-use Rattle.wy_running.specs.Running.{written}
-use Rattle.wy_running.specs.Starting.{Starts}
-use Rattle.wy_running.specs.declared.parts.Start.{Start}
-use Rattle.wy_sound_runs.specs.Runs.{GoesOn}
-use Rattle.wy_supplied.specs.Certificates.{no_file}
+use Rattle.wy_top.specs.wy_eval_exprs.Settings.{here}
+use Rattle.wy_top.specs.wy_top_answers.report.Lines.{steps_spent}
+use Rattle.wy_top.specs.wy_mach_run.Running.{written}
+use Rattle.wy_top.specs.wy_mach_run.Starting.{Starts}
+use Rattle.wy_top.specs.wy_mach_run.declared.parts.Start.{Start}
+use Rattle.wy_top.specs.wy_mach_run.sound.Runs.{GoesOn}
+use Rattle.wy_top.specs.wy_top_answers.supplied.Certificates.{no_file}
 use Rattle.wy_top.specs.Acceptance.{Acceptance, accepts_source}
 use Rattle.wy_top.specs.Exact.{IsElse}
 use Rattle.wy_top.specs.Large.{big_steps, head, large_name, makes}

@@ -5,3 +5,4 @@ pub mod Runs
 pub mod Commands
 pub mod Seen
 pub mod Means
+pub mod due

@@ -1,11 +1,11 @@
 -- What does a call on these words mean, said by what programs do?
 use Rattle.std.specs.Prelude.{◌⊎◌, ℕ, List, Option, Some, None, ⊤}
-use Rattle.wy_answers.specs.Answers.{no_memory}
-use Rattle.wy_answers.specs.Showing.{Shown, Sinks}
-use Rattle.wy_answers.specs.Steps.{Setting}
+use Rattle.wy_top.specs.wy_top_answers.Answers.{no_memory}
+use Rattle.wy_top.specs.wy_top_answers.Showing.{Shown, Sinks}
+use Rattle.wy_top.specs.wy_top_answers.Steps.{Setting}
 use Rattle.wy_top.specs.Saves.{Saving}
 use Rattle.wy_top.specs.Statement.{Comes}
-use Rattle.wy_words.specs.CommandLine.{Asked, check, run, prove, conds, fmt, dis, big, command_of}
+use Rattle.wy_top_words.specs.CommandLine.{Asked, check, run, prove, conds, fmt, dis, big, command_of}
 use Rattle.wy_headline.specs.Commands.{MeansRun, ShowsLarge}
 use Rattle.wy_headline.specs.Seen.{IsNeverStuck}
 

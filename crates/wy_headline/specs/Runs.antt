@@ -1,17 +1,17 @@
 -- What do the sinks take of a run, said by what the program does?
 use Rattle.std.specs.Prelude.{◌≡◌, ◌⊎◌, ◌++◌, ◌≤◌, ◌+◌, ◌*◌, ℕ, List, Bool, Option}
-use Rattle.wy_answers.specs.Showing.{Sinks}
+use Rattle.wy_top.specs.wy_top_answers.Showing.{Sinks}
 use Rattle.wy_core.specs.CoreTree.{Core, Routine}
-use Rattle.wy_eval_expressions.specs.Settings.{here}
+use Rattle.wy_top.specs.wy_eval_exprs.Settings.{here}
 use Rattle.wy_port.specs.Count.{Rose}
 use Rattle.wy_port.specs.Taken.{TookFront, with_taken}
-use Rattle.wy_report.specs.Lines.{steps_spent}
-use Rattle.wy_running.specs.Running.{Leaves, written}
-use Rattle.wy_sem.specs.Evaluation.{evaluate}
-use Rattle.wy_sem.specs.Meter.{Meter, Done}
-use Rattle.wy_sem.specs.Operations.{or_null}
-use Rattle.wy_simulated_programs.specs.Programs.{PrintsThat}
-use Rattle.wy_sound_runs.specs.Runs.{Gives, GoesOn}
+use Rattle.wy_top.specs.wy_top_answers.report.Lines.{steps_spent}
+use Rattle.wy_top.specs.wy_mach_run.Running.{Leaves, written}
+use Rattle.wy_sound.specs.wy_sem.Evaluation.{evaluate}
+use Rattle.wy_sound.specs.wy_sem.Meter.{Meter, Done}
+use Rattle.wy_sound.specs.wy_sem.Operations.{or_null}
+use Rattle.wy_top.specs.wy_gen_laws.programs.Programs.{PrintsThat}
+use Rattle.wy_top.specs.wy_mach_run.sound.Runs.{Gives, GoesOn}
 use Rattle.wy_top.specs.Runs.{TookOf, done_text}
 use Rattle.wy_value.specs.Datum.{Datum}
 

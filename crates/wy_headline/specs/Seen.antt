@@ -1,12 +1,12 @@
 -- Which status is never seen.
 use Rattle.std.specs.Prelude.{◌≡◌, ◌≢◌, ℕ, List, [], Option, Some, None}
-use Rattle.wy_answers.specs.Showing.{Sinks}
-use Rattle.wy_answers.specs.Steps.{Setting}
-use Rattle.wy_answers.specs.Texts.{not_certified}
+use Rattle.wy_top.specs.wy_top_answers.Showing.{Sinks}
+use Rattle.wy_top.specs.wy_top_answers.Steps.{Setting}
+use Rattle.wy_top.specs.wy_top_answers.Texts.{not_certified}
 use Rattle.wy_port.specs.Taken.{with_taken}
 use Rattle.wy_top.specs.Saves.{Saving}
 use Rattle.wy_top.specs.Statement.{Comes}
-use Rattle.wy_words.specs.CommandLine.{Asked, check, run, prove, conds, fmt, dis, big, command_of}
+use Rattle.wy_top_words.specs.CommandLine.{Asked, check, run, prove, conds, fmt, dis, big, command_of}
 
 -- where the status is 13, a condition was found and not certified: err took that line, and out nothing
 abbrev pub IsNotCertified : ℕ → Sinks → Type 0

@@ -1,17 +1,17 @@
 -- What is known of the program of a source whose conditions are true, and of its code.
 use Rattle.std.specs.Prelude.{◌≡◌, ℕ, List, map}
 use Rattle.wy_code.specs.declared.routines.Code.{Code}
-use Rattle.wy_compiled.specs.Programs.{code_of}
+use Rattle.wy_top.specs.wy_code_spec.compiled.Programs.{code_of}
 use Rattle.wy_core.specs.CoreTree.{Core, Routine, routines_of}
 use Rattle.wy_core.specs.Types.{Ty}
-use Rattle.wy_formed_conditions.specs.OwedConditions.{owed_conditions}
-use Rattle.wy_sem.specs.Evaluation.{Declared, callee}
-use Rattle.wy_sem.specs.Precondition.{Meets}
-use Rattle.wy_shown_conditions.specs.Certified.{AllHold}
+use Rattle.wy_sound.specs.wy_sound_terms.formed.OwedConditions.{owed_conditions}
+use Rattle.wy_sound.specs.wy_sem.Evaluation.{Declared, callee}
+use Rattle.wy_sound.specs.wy_sem.Precondition.{Meets}
+use Rattle.wy_sound.specs.wy_vc_laws.shown.Certified.{AllHold}
 use Rattle.wy_sound.specs.Sound.{Shown}
-use Rattle.wy_sound_runs.specs.Runs.{RunsRightly, run_by}
-use Rattle.wy_source.specs.Sources.{IsProgram}
-use Rattle.wy_sourced_code.specs.Cores.{AsCodeAsks}
+use Rattle.wy_top.specs.wy_mach_run.sound.Runs.{RunsRightly, run_by}
+use Rattle.wy_top.specs.wy_top_source.Sources.{IsProgram}
+use Rattle.wy_top.specs.wy_gen_sources.sourced_code.Cores.{AsCodeAsks}
 use Rattle.wy_value.specs.Seen.{seen, seen_items}
 use Rattle.wy_value.specs.Values.{AreValues}
 use Rattle.wy_value.specs.declared.value.Value.{Value}

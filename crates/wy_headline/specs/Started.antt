@@ -1,10 +1,10 @@
 -- Which program was started, and how it came to be accepted.
 use Rattle.std.specs.Prelude.{ℕ, List, Ok}
-use Rattle.wy_answers.specs.Loading.{Loads, source_limit}
-use Rattle.wy_answers.specs.Steps.{Setting}
-use Rattle.wy_cert.specs.Steps.{Certificates}
-use Rattle.wy_shown_conditions.specs.Certified.{AllHold}
-use Rattle.wy_supplied.specs.Certificates.{certificates}
+use Rattle.wy_top.specs.wy_top_answers.Loading.{Loads, source_limit}
+use Rattle.wy_top.specs.wy_top_answers.Steps.{Setting}
+use Rattle.wy_top.specs.wy_cert.Steps.{Certificates}
+use Rattle.wy_sound.specs.wy_vc_laws.shown.Certified.{AllHold}
+use Rattle.wy_top.specs.wy_top_answers.supplied.Certificates.{certificates}
 use Rattle.wy_top.specs.Acceptance.{Acceptance, IsAccepted}
 use Rattle.wy_top.specs.Launching.{IsLaunched}
 use Rattle.wy_top.specs.Owed.{Owes}

@@ -1,12 +1,12 @@
 //! The call of the program, with what it means.
 ghost use Rattle.std.specs.Prelude.{◌≡◌, ℕ, List};
-ghost use Rattle.wy_answers.specs.Showing.{sinks};
-ghost use Rattle.wy_answers.specs.Steps.{setting};
+ghost use Rattle.wy_top.specs.wy_top_answers.Showing.{sinks};
+ghost use Rattle.wy_top.specs.wy_top_answers.Steps.{setting};
 ghost use Rattle.wy_headline.specs.Means.{Means};
 ghost use Rattle.wy_top.specs.Saves.{saving};
 ghost use Rattle.wy_top.specs.Statement.{Comes, IsKeptBy, saved_name};
-ghost use Rattle.wy_words.specs.CommandLine.{command_of};
-ghost use Rattle.wy_words.specs.Plain.{words_in};
+ghost use Rattle.wy_top_words.specs.CommandLine.{command_of};
+ghost use Rattle.wy_top_words.specs.Plain.{words_in};
 
 use std::alloc::Global;
 use wy_port::{Files, Sink};

@@ -2,7 +2,7 @@
 //!
 //! A source whose program is typed and assigned, and of which every condition is true, has all that the laws of soundness and of
 //! code ask for (`specs/Sources`, `accepted_runs`). So its code, from any entry on values that meet it, does what the program does:
-//! that is said of whatever code is that of the core, as `generate` of wy_typed_code promises of its answer.
+//! that is said of whatever code is that of the core, as `generate` of wy_gen promises of its answer.
 //!
 //! `run_words` of wy_top says what a run writes by the steps of the code. Here the laws of soundness and of code are put to
 //! that: `specs/Started` says of the program that was started what it is, `specs/Runs` what the sinks take of its run,
@@ -12,6 +12,7 @@
 
 mod accepted_runs;
 mod commands;
+pub mod due;
 mod law;
 
 pub use accepted_runs::{

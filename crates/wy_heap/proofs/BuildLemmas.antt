@@ -2,6 +2,7 @@
 use Rattle.std.proofs.Common.{◌≡◌, inl, inr, ℕ, zero, suc, ◌≤◌, List, [], ◌∷◌, ◌++◌, set, length, replicate, Some, IsSome, refl, sym, ◌∙◌, ap, subst, arith, slice_get}
 use Rattle.std.proofs.lemmas.Bool.{cases_eq}
 use Rattle.slab.specs.Slab.{get}
+use Rattle.wy_lemmas.proofs.Lists.{same_bytes as some_same}
 use Rattle.wy_value.specs.declared.shapes.Shapes.{Shapes}
 use Rattle.wy_value.specs.Shapes.{named}
 use Rattle.wy_value.specs.Datum.{Datum, Data, no_items, item, Fields, no_fields, field}
@@ -89,9 +90,6 @@ record_fits h items n others counts has =
       datum.Record (joined (named h.shapes.names has.0) all.0),
       record_split h.shapes n has.0 all.0 has.1 (has.2 ∙ mean_all-length (map_of h) all.0 items all.1),
     )
-
-some_same : (list other : List ℕ) → Some list ≡ Some other → list ≡ other
-some_same list other same = cc
 
 pub record_means : (h n : Heap) (made : Part) (items : List Part) (number : ℕ) (list : List ℕ) (ds : Data) → HasShape h.shapes number (length items) → slice_get h.shapes.lists number ≡ Some list → MeanAll (map_of h) ds items → IsNode (map_of n) made (form_of h.shapes (shape.Record number)) ds → Means (map_of n) (datum.Record (joined (named h.shapes.names list) ds)) made
 record_means h n made items number list ds has found mean node =

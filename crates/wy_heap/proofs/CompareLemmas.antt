@@ -134,7 +134,7 @@ split_parts (datum.Record fs) f g ds es first second = (first.0 ∙ sym second.0
 
 -- ---- shapes
 
-record_not_list : (names : List (List ℕ)) (o : Option (List ℕ)) → record_of names o ≡ list_form → ⊥
+pub record_not_list : (names : List (List ℕ)) (o : Option (List ℕ)) → record_of names o ≡ list_form → ⊥
 record_not_list names None same = cc
 record_not_list names (Some list) same = cc
 

@@ -24,7 +24,7 @@ use Rattle.wy_heap.specs.declared.node.Node.{Node}
 use Rattle.wy_heap.specs.declared.heap.Heap.{Heap}
 use Rattle.wy_heap.specs.Nodes.{Form, list_form, record_form, record_of, form_of, no_form, Map, map_of, body_of, at, holds, count_of, count_at}
 use Rattle.wy_heap.specs.Meaning.{data_in, Means, MeanAll, IsNode, IsSplit}
-use Rattle.wy_heap.specs.Standing.{Counts, IsWithin, Stands, Acts}
+use Rattle.wy_heap.specs.Standing.{Counts, Stands, Acts}
 use Rattle.wy_heap.specs.Slots.{nth}
 use Rattle.wy_heap.specs.Extending.{Extends, HasNames}
 use Rattle.wy_heap.specs.Importing.{Carries, Grew, OnlyOnes, kids, IsKid, front_of, rest_of, Job, job_of, jobs_of, Ready, works, LastFit, Gathers, HasKids, Finishes}
@@ -63,9 +63,6 @@ mean_all_more m n more (item d ds) [] mean = mean
 mean_all_more m n more (item d ds) (p ∷ ps) mean = (means_more m n more d p mean.0, mean_all_more m n more ds ps mean.1)
 
 -- ---- carries follow each other
-
-pub carries_refl : (h : Heap) (done : List Part) → Carries h h done done
-carries_refl h done = record { counts = λ others counts. counts; more = λ k b was. was }
 
 pub carries_trans : (a b c : Heap) (ps qs rs : List Part) → Carries a b ps qs → Carries b c qs rs → Carries a c ps rs
 carries_trans a b c ps qs rs first second = record {
@@ -110,9 +107,6 @@ carries_failed a b d done places counts carries frees upheld =
     carries.more)
 
 -- ---- the table grows
-
-pub extends_refl : (t : Shapes) → Extends t t
-extends_refl t = record { names = λ n x is. is; lists = λ n x is. is }
 
 pub extends_trans : (t u v : Shapes) → Extends t u → Extends u v → Extends t v
 extends_trans t u v first second = record {
@@ -159,9 +153,6 @@ tabled h t places counts table extends = record {
         ap (λ (f : Form). Some (record { form = f; parts = n.parts.items }))
         (form_extends h.shapes t n.shape table extends (λ none. split_known d.0 node.form node.data_of node.split (sym form ∙ none)))
 
-pub grew_refl : (h : Heap) → IsShapes h.shapes → Grew h h
-grew_refl h table = record { cap = refl; copies = refl; table = table; extends = extends_refl h.shapes; within = λ within. within }
-
 pub grew_trans : (a b c : Heap) → Grew a b → Grew b c → Grew a c
 grew_trans a b c first second = record {
   cap = second.cap ∙ first.cap;
@@ -169,15 +160,6 @@ grew_trans a b c first second = record {
   table = second.table;
   extends = extends_trans a.shapes b.shapes c.shapes first.extends second.extends;
   within = λ within. second.within (first.within within);
-}
-
-pub grew_rest : (a b c : Heap) → Grew a b → c.cap ≡ b.cap → c.shapes ≡ b.shapes → c.copies ≡ b.copies → (IsWithin b → IsWithin c) → Grew a c
-grew_rest a b c grew cap shapes copies within = record {
-  cap = cap ∙ grew.cap;
-  copies = copies ∙ grew.copies;
-  table = subst IsShapes (sym shapes) grew.table;
-  extends = subst (Extends a.shapes) (sym shapes) grew.extends;
-  within = λ w. within (grew.within w);
 }
 
 -- ---- new nodes have one holder each
@@ -211,12 +193,6 @@ ones_added h n key s parts adds k = elim (cases_eq k key) [
 
 -- ---- data
 
-pub mean_all_from : (m : Map) (ds : Data) (ps : List Part) → length ps ≡ length_of ds → ((k : ℕ) → k < length ps → Means m (nth ds k) (get_or ps k Null)) → MeanAll m ds ps
-mean_all_from m no_items [] long all = refl
-mean_all_from m no_items (p ∷ ps) long all = absurd (omega (arith, long))
-mean_all_from m (item d ds) [] long all = absurd (omega (arith, long))
-mean_all_from m (item d ds) (p ∷ ps) long all = (all 0 (omega arith), mean_all_from m ds ps (omega (arith, long)) (λ k below. all (suc k) (omega arith)))
-
 pub length-seen_items : (vs : List Value) → length_of (seen_items vs) ≡ length vs
 length-seen_items [] = refl
 length-seen_items (v ∷ vs) = omega (arith, length-seen_items vs)
@@ -235,16 +211,6 @@ seen_field [] i f below is = absurd (omega arith)
 seen_field (g ∷ fs) zero f below is = ap (λ (x : List ℕ × Value). seen x.1) is
 seen_field (g ∷ fs) (suc i) f below is = seen_field fs i f (omega arith) is
 
-pub item_datum : (vs : List Value) (i : ℕ) (v : Value) → i < length vs → get_or vs i v ≡ v → AreData (seen_items vs) → IsDatum (seen v)
-item_datum [] i v below is all = absurd (omega arith)
-item_datum (w ∷ vs) zero v below is all = subst IsDatum (ap seen is) all.0
-item_datum (w ∷ vs) (suc i) v below is all = item_datum vs i v (omega arith) is all.1
-
-pub field_datum : (fs : List (List ℕ × Value)) (i : ℕ) (f : List ℕ × Value) → i < length fs → get_or fs i f ≡ f → AreFields (seen_fields fs) → IsDatum (seen f.1)
-field_datum [] i f below is all = absurd (omega arith)
-field_datum (g ∷ fs) zero f below is all = subst IsDatum (ap (λ (x : List ℕ × Value). seen x.1) is) all.1
-field_datum (g ∷ fs) (suc i) f below is all = field_datum fs i f (omega arith) is all.2
-
 -- ---- a node of parts that were imported
 
 pub adopted : (h room n : Heap) (key : ℕ) (s : Shape) (parts : List Part) → room.nodes.slots ≡ h.nodes.slots → room.shapes ≡ h.shapes → Adds room n key s parts → Fits (map_of h) (form_of h.shapes s) parts → Adopts h n (form_of h.shapes s) parts (Key key)
@@ -261,18 +227,9 @@ adopted h room n key s parts slots shapes adds fits =
 
 -- ---- one layer of a value
 
-pub array_datum : (v : Value) (vs items : List Value) → v ≡ value.Array items → vs ≡ items → IsDatum (seen v) → AreData (seen_items vs)
-array_datum v vs items is same datum_is =
-    subst (λ (l : List Value). AreData (seen_items l)) (sym same) (subst IsDatum (ap seen is ∙ seen_array items) datum_is)
-
 pub record_datum : (v : Value) (fs fields : List (List ℕ × Value)) → v ≡ value.Record fields → fs ≡ fields → IsDatum (seen v) → Rise (names_of (seen_fields fs)) × AreFields (seen_fields fs)
 record_datum v fs fields is same datum_is =
     subst (λ (l : List (List ℕ × Value)). Rise (names_of (seen_fields l)) × AreFields (seen_fields l)) (sym same) (subst IsDatum (ap seen is ∙ seen_record fields) datum_is)
-
-pub array_imported : (m : Map) (v : Value) (vs items : List Value) (part : Part) → v ≡ value.Array items → vs ≡ items → IsNode m part list_form (seen_items vs) → Means m (seen v) part
-array_imported m v vs items part is same node =
-    subst (λ (d : Datum). Means m d part) (sym (ap seen is ∙ seen_array items))
-    (subst (λ (l : List Value). Means m (datum.Array (seen_items l)) part) same node)
 
 -- the form of a record that was imported
 pub record_split : (t : Shapes) (n : ℕ) (fs : List (List ℕ × Value)) → HasNames t n (names_of (seen_fields fs)) → IsSplit (datum.Record (seen_fields fs)) (form_of t (shape.Record n)) (data_in (seen_fields fs))
@@ -283,11 +240,6 @@ record_imported m t n v fs fields part is same has node =
     subst (λ (d : Datum). Means m d part) (sym (ap seen is ∙ seen_record fields))
     (subst (λ (l : List (List ℕ × Value)). Means m (datum.Record (seen_fields l)) part) same
     (means_from_node m (datum.Record (seen_fields fs)) part (form_of t (shape.Record n)) (data_in (seen_fields fs)) (record_split t n fs has) node))
-
--- a shape keeps its names where the table grows
-pub names_extend : (t u : Shapes) (n : ℕ) (names : List (List ℕ)) → IsShapes t → Extends t u → HasNames t n names → HasNames u n names
-names_extend t u n names table extends has =
-    (has.0, extends.lists n has.0 has.1, named_extends t u has.0 extends (numbers_in t n has.0 table has.1) ∙ has.2)
 
 -- ---- the whole
 
@@ -363,17 +315,6 @@ front-all (item d ds) (suc i) past = ap (item d) (front-all ds i (omega arith))
 
 -- ---- what is left to do
 
-pub ready_first : (m : Map) (d : Datum) → IsDatum d → Ready m d ((d, 0) ∷ []) []
-ready_first m d is = record {
-  lower = [];
-  front = [];
-  is = refl;
-  many = omega arith;
-  mean = refl;
-  is_datum = is;
-  goes_on = λ n part more means. (part, refl, means);
-}
-
 -- the next datum in the first job is begun
 pub ready_kid : (m : Map) (d u w : Datum) (i : ℕ) (jobs : List Job) (done : List Part) → IsKid u i w → Ready m d ((u, i) ∷ jobs) done → Ready m d ((w, 0) ∷ (u, i + 1) ∷ jobs) done
 ready_kid m d u w i jobs done kid ready = record {
@@ -417,23 +358,9 @@ jobs-push todo job = ap (map job_of) (reverse-append todo (job ∷ []))
 
 -- ---- the end of a datum
 
-pub scalar_finished : (m : Map) (v : Value) (d : Datum) (before after : List Part) (many : ℕ) (p : Part) → seen v ≡ d → kids d ≡ no_items → Means m d p → after ≡ before ++ p ∷ [] → Finishes m m (seen v) before after many
-scalar_finished m v d before after many p is none means pushed lower front whole long mean =
-    let empty : front ≡ [] = subst (λ (l : Data). MeanAll m l front) (ap kids is ∙ none) mean in (
-      p,
-      pushed ∙ ap (λ (l : List Part). l ++ p ∷ []) (whole ∙ ap (λ (l : List Part). lower ++ l) empty ∙ append-nil lower),
-      subst (λ (e : Datum). Means m e p) (sym is) means,
-    )
-
 pub array_fits : (m : Map) (v : Value) (done : List Part) (many : ℕ) (items : List Value) → v ≡ value.Array items → HasKids m (seen v) done many → LastFit m list_form done many
 array_fits m v done many items is has =
     (has.0, has.1, has.2, has.3, (kids (seen v), has.4, datum.Array (kids (seen v)), (refl, refl)))
-
-pub array_finished : (a b : Heap) (v : Value) (before after : List Part) (many : ℕ) (items : List Value) → v ≡ value.Array items → Gathers a b list_form before after many → Finishes (map_of a) (map_of b) (seen v) before after many
-array_finished a b v before after many items is gathers lower front whole long mean =
-    let made = gathers lower front whole long in
-    let inside : kids (seen v) ≡ seen_items items = kid_array v items items is refl in
-    (made.0, made.1, array_imported (map_of b) v items items made.0 is refl (made.2.node (seen_items items) (subst (λ (l : Data). MeanAll (map_of a) l front) inside mean)))
 
 pub record_fits : (m : Map) (t : Shapes) (n : ℕ) (v : Value) (done : List Part) (many : ℕ) (fs fields : List (List ℕ × Value)) → v ≡ value.Record fields → fs ≡ fields → HasNames t n (names_of (seen_fields fs)) → HasKids m (seen v) done many → LastFit m (form_of t (shape.Record n)) done many
 record_fits m t n v done many fs fields is same names has =
@@ -475,7 +402,3 @@ gather_carries h n form before after many gathers fit =
     let made = gathers fit.0 fit.1 fit.2 fit.3 in
     subst (λ (l : List Part). Carries h n l after) (sym fit.2)
     (subst (λ (l : List Part). Carries h n (fit.0 ++ fit.1) l) (sym made.1) (carries_adopts h n fit.0 fit.1 form made.0 made.2))
-
-pub reserved_carries : (h n : Heap) (done after : List Part) → n.nodes.slots ≡ h.nodes.slots → n.shapes ≡ h.shapes → after ≡ done → Carries h n done after
-reserved_carries h n done after slots shapes same =
-    subst (Carries h n done) (sym same) (carries_same h n done (same_slots h n slots shapes))

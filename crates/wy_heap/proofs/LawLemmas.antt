@@ -13,11 +13,11 @@ nodes_are_reached h places stands k =
     ((λ is. all_reached h places stands.counts k is), (λ reach. reached_old h h places stands.counts (λ j b was. was) k reach))
 
 -- no place reaches nothing
-unreached : (m : Map) (k : ℕ) → Reach m [] k → ⊥
+pub unreached : (m : Map) (k : ℕ) → Reach m [] k → ⊥
 unreached m k (root _ some) = omega (arith, some)
 unreached m k (part j _ b reach is some) = unreached m j reach
 
-size_none : (m : Map) → ((k : ℕ) → at m k ≡ None) → size m ≡ 0
+pub size_none : (m : Map) → ((k : ℕ) → at m k ≡ None) → size m ≡ 0
 size_none [] none = refl
 size_none (None ∷ cs) none = size_none cs (λ k. none (suc k))
 size_none (Some b ∷ cs) none = absurd (let e = none 0 in cc)

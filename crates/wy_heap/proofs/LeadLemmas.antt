@@ -98,12 +98,6 @@ same_slots h n slots shapes = record {
   counts = λ k. ap (λ (l : List (Option Node)). count_of (get_or l k None)) slots;
 }
 
-pub same_trans : (h n o : Heap) → SameNodes h n → SameNodes n o → SameNodes h o
-same_trans h n o first second = record {
-  nodes = λ k. second.nodes k ∙ first.nodes k;
-  counts = λ k. second.counts k ∙ first.counts k;
-}
-
 -- ---- a whole heap
 
 pub within_same : (h n : Heap) → ((k : ℕ) → count_at n k ≤ count_at h k) → n.cap ≡ h.cap → IsWithin h → IsWithin n

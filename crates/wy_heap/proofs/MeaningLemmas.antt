@@ -5,7 +5,7 @@ use Rattle.wy_value.specs.Datum as datum
 use Rattle.wy_value.specs.Values.{names_of, length_of}
 use Rattle.wy_heap.specs.declared.part.Part.{Part}
 use Rattle.wy_heap.specs.declared.part.Part.TheVariants.{Null, Key}
-use Rattle.wy_heap.specs.Nodes.{Form, list_form, record_form, no_form, Body, Map, at, holds, held, parts_in}
+use Rattle.wy_heap.specs.Nodes.{Form, list_form, record_form, Body, Map, at, holds, held, parts_in}
 use Rattle.wy_heap.specs.Meaning.{data_in, Means, MeanAll, MeanFields, IsNode, IsSplit}
 use Rattle.wy_heap.specs.Slots.{nth}
 use Rattle.wy_heap.proofs.CountLemmas.{holds_one}
@@ -148,11 +148,6 @@ mean_all-nth m (item d ds) (p ∷ ps) (suc i) mean below = mean_all-nth m ds ps 
 form_or : Form → Option Body → Form
 form_or f None = f
 form_or f (Some b) = b.form
-
-names_or : List (List ℕ) → Form → List (List ℕ)
-names_or names list_form = names
-names_or names (record_form ns) = ns
-names_or names no_form = names
 
 -- two views of one node
 pub same_form : (x y : Body) → Some x ≡ Some y → x.form ≡ y.form

@@ -1,6 +1,7 @@
 -- Nodes at keys that had none: as many as a larger map has more, and none of them goes with what was there before.
 use Rattle.std.proofs.Common.{◌≡◌, ◌⊎◌, inl, inr, ℕ, zero, suc, ◌+◌, ◌≤◌, List, [], ◌∷◌, drop, replicate, Option, Some, None, IsSome, refl, sym, ◌∙◌, ap, subst, arith}
 use Rattle.std.proofs.lemmas.Bool.{cases_eq}
+use Rattle.wy_heap.proofs.LawLemmas.{size_none}
 use Rattle.wy_heap.specs.declared.part.Part.{Part}
 use Rattle.wy_heap.specs.declared.part.Part.TheVariants.{Key}
 use Rattle.wy_heap.specs.declared.heap.Heap.{Heap}
@@ -30,11 +31,6 @@ at-news m (d ∷ ds) (suc k) = at-news (drop 1 m) ds k ∙ ap (λ (o : Option Bo
 -- a map whose nodes are all in an empty one has none
 more_none : (m : Map) → More m [] → (k : ℕ) → at m k ≡ None
 more_none m more k = elim (some_or_none (at m k)) [ inl found ↦ absurd (let e = more k found.0 found.1 in cc) | inr none ↦ none ]
-
-size_none : (m : Map) → ((k : ℕ) → at m k ≡ None) → size m ≡ 0
-size_none [] none = refl
-size_none (None ∷ cs) none = size_none cs (λ k. none (suc k))
-size_none (Some b ∷ cs) none = absurd (let e = none 0 in cc)
 
 inner_none : (j : ℕ) (m : Map) → ((k : ℕ) → at m k ≡ None) → inner j m ≡ 0
 inner_none j [] none = refl

@@ -303,14 +303,6 @@ copied_wrote s0 whole key place step rest inside level s1 top builds part held_w
   fresh = copied_fresh s0 whole key place step rest inside level s1 top builds part held_with.0 held_with.1 s2 s3 below out wrote swaps is_out;
 }
 
--- a new node that is let go of leaves the heap as it was
-pub dropped : (s0 s1 s2 : Heap) (form : Form) (parts : List Part) (made : ℕ) (places : List Part) → Builds s0 s1 form parts made → Counts s0 places → Counts s1 (Key made ∷ places) → ((others : List Part) → Counts s1 (Key made ∷ others) → Leads s1 s2 [] others) → Upheld s1 (map_of s2) (Key made) → SameNodes s0 s2
-dropped s0 s1 s2 form parts made places builds counts held_with frees upheld =
-    restored s0 s2 places counts (frees places held_with).counts
-    (upheld (map_of s0) places held_with
-    (λ k b was. omega (arith, counts.counted k, counts.alive k (subst IsSome (sym was) refl)))
-    builds.stays)
-
 -- refused further down: the copy is let go of
 pub copied_refused : (s0 s1 s2 s3 : Heap) (form : Form) (parts : List Part) (top : ℕ) (places : List Part) → Builds s0 s1 form parts top → Counts s0 places → SameNodes s1 s2 → ((others : List Part) → Counts s2 (Key top ∷ others) → Leads s2 s3 [] others) → Upheld s2 (map_of s3) (Key top) → SameNodes s0 s3
 copied_refused s0 s1 s2 s3 form parts top places builds counts same frees upheld =
@@ -319,14 +311,6 @@ copied_refused s0 s1 s2 s3 form parts top places builds counts same frees upheld
     (upheld (map_of s0) places still
     (λ k b was. omega (arith, counts.counted k, counts.alive k (subst IsSome (sym was) refl)))
     (λ k b was. same.nodes k ∙ builds.stays k b was))
-
--- nothing was done
-pub wrote_nothing : (s : Heap) (whole part : Part) → Wrote s s (part ∷ []) whole [] part part
-wrote_nothing s whole part = record {
-  leads = λ others counts. record { counts = counts; keeps = λ q d among means. means };
-  value = λ w u means_w means_u. means_u;
-  fresh = λ k b was none. none;
-}
 
 pub inner_lasts : (k : ℕ) (m n : Map) → Lasts m n → inner k n ≤ inner k m
 inner_lasts k m [] lasts = omega arith

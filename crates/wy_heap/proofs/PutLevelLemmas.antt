@@ -15,16 +15,8 @@ use Rattle.wy_heap.proofs.CountLemmas.{holds_one, holds_is, slot-le-inner}
 use Rattle.wy_heap.proofs.ChangeLemmas.{not_there, some_or_none}
 use Rattle.wy_heap.proofs.PathLemmas.{Level, level_inside}
 use Rattle.wy_heap.proofs.PlaceLemmas.{part_free}
-use Rattle.wy_heap.proofs.SizeLemmas.{copies_none, copies_trans, size_same, size_swapped, raised-raised}
+use Rattle.wy_heap.proofs.SizeLemmas.{copies_trans, size_same, size_swapped, raised-raised}
 use Rattle.wy_heap.proofs.PutLemmas.{SamePath, same_path, copied_along-same, copied_level, room_level, copied_held, Avoids, avoids, same_avoids, all_sole-same, room_along-same, in_place-same, in_place-avoids, put_along-same}
-
--- ---- nothing was done
-
-pub only_nothing : (h : Heap) → CopiesOnly h h
-only_nothing h = record { stays = λ k b was. was; more = λ k. omega arith; copies = copies_none h }
-
-pub along_nothing : (h : Heap) (whole part : Part) → CopiesAlong h h whole [] part part
-along_nothing h whole part = record { along = refl; counted = refl }
 
 -- ---- a level of copies
 
@@ -121,9 +113,6 @@ copy_puts s0 s1 s2 whole path part made many stays copied same counted = record 
     along_from (s ∷ steps) q along = inr (record { many = many; copied = along; as_many = refl })
 
 -- ---- the end of the path
-
-pub end_counts : (s0 s1 : Heap) (whole : Part) → s1.copies ≡ s0.copies → CountsCopies s0 s1 whole []
-end_counts s0 s1 whole same = record { none = λ sole. same; some = λ many. absurd (many tt) }
 
 pub end_puts : (s0 s1 : Heap) (whole part : Part) → Lasts (map_of s0) (map_of s1) → s1.copies ≡ s0.copies → Puts s0 s1 whole [] part part
 end_puts s0 s1 whole part lasts same = record {
@@ -230,6 +219,3 @@ module _ (s0 : Heap) (whole : Part) (key place : ℕ) (step : Step) (rest : List
           last ∙ made.2 ∙ ap (λ (n : ℕ). raised n made.0) first,
         );
   }
-
-pub copy_counts : (s0 s2 : Heap) (whole : Part) (step : Step) (rest : List Step) → (IsSole s0 whole → ⊥) → CopiesAsMany s0 s2 → CountsCopies s0 s2 whole (step ∷ rest)
-copy_counts s0 s2 whole step rest many copies = record { none = λ all. absurd (many all.0); some = λ _. copies }

@@ -1,10 +1,9 @@
 -- Places in a list, for the rows of the tests.
-use Rattle.std.proofs.Common.{◌≡◌, ℕ, zero, suc, ◌+◌, ◌≤◌, ◌<◌, List, [], ◌∷◌, ◌++◌, take, drop, length, get_or, sym, subst, ap, arith}
+use Rattle.std.proofs.Common.{◌≡◌, ℕ, zero, suc, ◌<◌, List, [], ◌∷◌, ◌++◌, length, get_or, sym, subst, arith}
 use Rattle.wy_value.specs.declared.value.Value.{Value}
 use Rattle.wy_value.specs.Datum.{Datum, Data, no_items, item, Fields, no_fields, field}
 use Rattle.wy_value.specs.Datum as datum
 use Rattle.wy_value.specs.Shapes.{IsShapes}
-use Rattle.std.proofs.lemmas.List.{take-append-drop}
 use Rattle.wy_value.specs.Seen.{seen, seen_items}
 use Rattle.wy_value.specs.Values.{IsDatum, AreData, AreFields, IsValue, AreValues, AreValueFields}
 use Rattle.wy_heap.specs.declared.part.Part.{Part}
@@ -27,40 +26,9 @@ restood h ps qs same stands = record {
   table = stands.table;
 }
 
-held-out : (k : ℕ) (ps : List Part) (i : ℕ) (d : Part) → i < length ps → held k (take i ps ++ drop (suc i) ps) + holds k (get_or ps i d) ≡ held k ps
-held-out k [] i d below = absurd (omega arith)
-held-out k (p ∷ ps) zero d below = omega arith
-held-out k (p ∷ ps) (suc i) d below = omega (arith, held-out k ps i d (omega arith))
-
--- one place first
-pub first_out : (h : Heap) (ps : List Part) (i : ℕ) (p d : Part) → p ≡ get_or ps i d → i < length ps → Stands h ps → Stands h (p ∷ (take i ps ++ drop (suc i) ps))
-first_out h ps i p d is below stands =
-    restood h ps (p ∷ (take i ps ++ drop (suc i) ps)) (λ k. omega (arith, ap (holds k) is, held-out k ps i d below)) stands
-
--- one place first, and a new one, in a later heap: in their order, the new one last
-pub shared_in : (h : Heap) (ps : List Part) (i : ℕ) (p d made : Part) → p ≡ get_or ps i d → i < length ps → Stands h (made ∷ p ∷ (take i ps ++ drop (suc i) ps)) → Stands h (ps ++ made ∷ [])
-shared_in h ps i p d made is below stands =
-    restood h (made ∷ p ∷ (take i ps ++ drop (suc i) ps)) (ps ++ made ∷ [])
-    (λ k. omega (arith, held-append k ps (made ∷ []), ap (holds k) is, held-out k ps i d below)) stands
-
 -- a new place last
 pub last_in : (h : Heap) (p : Part) (ps : List Part) → Stands h (p ∷ ps) → Stands h (ps ++ p ∷ [])
 last_in h p ps stands = restood h (p ∷ ps) (ps ++ p ∷ []) (λ k. omega (arith, held-append k ps (p ∷ []))) stands
-
--- the last place first
-pub last_out : (h : Heap) (p : Part) (ps : List Part) → Stands h (ps ++ p ∷ []) → Stands h (p ∷ ps)
-last_out h p ps stands = restood h (ps ++ p ∷ []) (p ∷ ps) (λ k. omega (arith, held-append k ps (p ∷ []))) stands
-
--- two places first
-pub two_out : (h : Heap) (ps : List Part) (p q d e : Part) → p ≡ get_or ps 0 d → q ≡ get_or ps 1 e → 2 ≤ length ps → Stands h ps → Stands h (p ∷ q ∷ drop 2 ps)
-two_out h [] p q d e first second two stands = absurd (omega (arith, two))
-two_out h (x ∷ []) p q d e first second two stands = absurd (omega (arith, two))
-two_out h (x ∷ y ∷ ps) p q d e first second two stands =
-    restood h (x ∷ y ∷ ps) (p ∷ q ∷ ps) (λ k. omega (arith, ap (holds k) first, ap (holds k) second)) stands
-
--- a scalar beside the places
-pub with_scalar : (h : Heap) (p s : Part) (ps : List Part) → ((k : ℕ) → holds k s ≡ 0) → Stands h (p ∷ ps) → Stands h (p ∷ s ∷ ps)
-with_scalar h p s ps none stands = restood h (p ∷ ps) (p ∷ s ∷ ps) (λ k. omega (arith, none k)) stands
 
 -- a place whose kind is array stands for an array
 array_from : (h : Heap) (p : Part) (d : Datum) (k : kind.Kind) → Means (map_of h) d p → IsKind h.shapes d k → k ≡ is.Array → (items : Data) × Means (map_of h) (datum.Array items) p
@@ -105,16 +73,6 @@ as_before h n ps same kept stands = record {
   some = omega (arith, kept.0, stands.some);
   table = subst IsShapes (sym kept.1) stands.table;
 }
-
--- the places from one on first
-pub behind_out : (h : Heap) (ps : List Part) (i : ℕ) → Stands h ps → Stands h (drop i ps ++ take i ps)
-behind_out h ps i stands =
-    restood h ps (drop i ps ++ take i ps) (λ k. omega (arith, held-append k (drop i ps) (take i ps), held-append k (take i ps) (drop i ps), ap (held k) (take-append-drop i ps))) stands
-
--- one place first, and a new one behind it
-pub beside_out : (h : Heap) (ps : List Part) (i : ℕ) (p d new : Part) → p ≡ get_or ps i d → i < length ps → Stands h (new ∷ ps) → Stands h (p ∷ new ∷ (take i ps ++ drop (suc i) ps))
-beside_out h ps i p d new is below stands =
-    restood h (new ∷ ps) (p ∷ new ∷ (take i ps ++ drop (suc i) ps)) (λ k. omega (arith, ap (holds k) is, held-out k ps i d below)) stands
 
 pub first_meant : (h : Heap) (p : Part) (others : List Part) → Stands h (p ∷ others) → IsMeant (map_of h) p
 first_meant h p others stands = among_meant h (p ∷ others) p stands.counts (among_first p others)

@@ -18,7 +18,7 @@ use Rattle.wy_heap.specs.Meaning.{Means, IsMeant}
 use Rattle.wy_heap.specs.Slots.{item_at, no_step, field_step, step_of, steps_of, position_of, HasStep, HasPath, child, part_at, IsSlot, IsPath}
 use Rattle.wy_heap.specs.Numbering.{number_position}
 use Rattle.wy_heap.proofs.MeaningLemmas.{mean_all-length, means_unique}
-use Rattle.wy_heap.proofs.SlotLemmas.{held_node, node_form, node_parts, position_of-named, child_means, array_field, record_field, step_key}
+use Rattle.wy_heap.proofs.SlotLemmas.{held_node, node_form, node_parts, position_of-named, child_means}
 use Rattle.wy_heap.proofs.CompareLemmas.{numbers_in}
 use Rattle.wy_heap.proofs.BuildLemmas.{length-named}
 
@@ -102,18 +102,6 @@ array_short h key n i (datum.Record fs) was beyond means has = has
 pub array_absent : (h : Heap) (key : ℕ) (n : Node) (i : ℕ) → get h.nodes key ≡ Some n → length n.parts.items ≤ i → IsSlot h (Key key) (Item i) → ⊥
 array_absent h key n i was beyond slot = array_short h key n i slot.0 was beyond slot.1 slot.2
 
-no_item : (o : Option (List ℕ)) (i : ℕ) → field_step o ≡ item_at i → ⊥
-no_item None i same = cc
-no_item (Some name) i same = cc
-
-pub array_no_field : (h : Heap) (key : ℕ) (n : Node) (f : ℕ) → get h.nodes key ≡ Some n → n.shape ≡ shape.Array → IsSlot h (Key key) (Field f) → ⊥
-array_no_field h key n f was is slot =
-    let found = array_field h key n (step_of h.shapes (Field f)) slot.0 was is slot.1 slot.2 in
-    no_item (slice_get h.shapes.names f) found.0 found.1
-
-pub record_no_item : (h : Heap) (key : ℕ) (n : Node) (number i : ℕ) → get h.nodes key ≡ Some n → n.shape ≡ shape.Record number → IsSlot h (Key key) (Item i) → ⊥
-record_no_item h key n number i was is slot = record_field h key n number i slot.0 was is slot.1 slot.2
-
 some_within : (names : List (List ℕ)) (f : ℕ) (name : List ℕ) → slice_get names f ≡ Some name → (f < length names) × (name ≡ get_or names f [])
 some_within [] f name is = absurd (cc)
 some_within (n ∷ ns) zero name is = (omega arith, cc)
@@ -149,14 +137,6 @@ record_named h key n number f list (datum.Record fs) (Some name) o table was is 
 pub record_absent : (h : Heap) (key : ℕ) (n : Node) (number f : ℕ) (list : List ℕ) → IsShapes h.shapes → get h.nodes key ≡ Some n → n.shape ≡ shape.Record number → slice_get h.shapes.lists number ≡ Some list → length list ≤ number_position f list → IsSlot h (Key key) (Field f) → ⊥
 record_absent h key n number f list table was is found beyond slot =
     record_named h key n number f list slot.0 (slice_get h.shapes.names f) refl table was is found beyond slot.1 slot.2
-
--- what holds no node has no slot
-pub no_node : (h : Heap) (p : Part) (s : Slot) → ((k : ℕ) → p ≡ Key k → ⊥) → IsSlot h p s → ⊥
-no_node h p s none slot = let key = step_key (map_of h) slot.0 p (step_of h.shapes s) slot.1 slot.2 in none key.0 key.1
-
--- the first slot of a path, and the rest behind it
-pub path_slot : (h : Heap) (p : Part) (s : Slot) (rest : List Slot) → IsPath h p (s ∷ rest) → IsSlot h p s
-path_slot h p s rest path = (path.0, path.1, path.2.0)
 
 pub path_less : (h : Heap) (p : Part) (s : Slot) (rest : List Slot) → IsPath h p (s ∷ rest) → IsPath h (part_at (map_of h) p (step_of h.shapes s)) rest
 path_less h p s rest path =

@@ -1,27 +1,25 @@
 -- The nodes are settled, one after the other, and a new node with them.
-use Rattle.std.proofs.Common.{◌≡◌, inl, inr, ℕ, ◌+◌, ◌≤◌, ◌<◌, List, [], ◌∷◌, ◌++◌, get_or, length, Option, None, IsSome, refl, sym, ◌∙◌, ap, subst, arith}
-use Rattle.std.proofs.lemmas.Bool.{cases_eq}
+use Rattle.std.proofs.Common.{◌≡◌, ℕ, ◌+◌, ◌≤◌, ◌<◌, List, [], ◌∷◌, ◌++◌, get_or, Option, None, IsSome, refl, sym, ◌∙◌, ap, subst, arith}
 use Rattle.slab.specs.Slab.{ContainsKey}
 use Rattle.wy_value.specs.Datum.{Datum}
 use Rattle.wy_heap.specs.declared.part.Part.{Part}
 use Rattle.wy_heap.specs.declared.part.Part.TheVariants.{Null, Key}
 use Rattle.wy_heap.specs.declared.heap.Heap.{Heap}
-use Rattle.wy_heap.specs.Nodes.{Form, Body, Map, map_of, at, holds, held, slot_holds, inner, count_at, size, parts_in, form_in}
+use Rattle.wy_heap.specs.Nodes.{Form, Body, Map, map_of, at, holds, slot_holds, inner, count_at, size, parts_in, form_in}
 use Rattle.wy_heap.specs.Meaning.{Means, IsSplit}
 use Rattle.wy_heap.specs.Standing.{Counts, IsWithin, SameTable}
 use Rattle.wy_heap.specs.Slots.{part_of}
 use Rattle.wy_heap.specs.Freeing.{times}
-use Rattle.wy_heap.specs.Changing.{SameNodes, Leads, HasRoom, Joins, IsNodeSlot, Fits, Builds, More, Upheld}
+use Rattle.wy_heap.specs.Changing.{SameNodes, Leads, Joins, IsNodeSlot, Fits, Builds, More, Upheld}
 use Rattle.wy_heap.specs.Copying.{raised, CopiesAsMany, CopiesBeside}
 use Rattle.wy_heap.specs.Settling.{owing, loads, Settles, AreTodo, Lacks, Spares, SettlesNode}
 use Rattle.wy_heap.proofs.CountLemmas.{inner_part, holds_one, holds-get_or}
-use Rattle.wy_heap.proofs.ChangeLemmas.{count_there, contains_from_at, not_there, some_or_none}
+use Rattle.wy_heap.proofs.ChangeLemmas.{count_there, contains_from_at}
 use Rattle.wy_heap.proofs.MeaningLemmas.{data_unique, node_from_means, means_from_node}
 use Rattle.wy_heap.proofs.SlotLemmas.{held_node}
 use Rattle.wy_heap.proofs.ReachLemmas.{restored}
 use Rattle.wy_heap.proofs.SizeLemmas.{copies_trans, raised-raised, size_joined}
 use Rattle.wy_heap.proofs.SettleLemmas.{loads-append, owing-append, settles_trans, times-append, times_one}
-use Rattle.wy_heap.proofs.LookLemmas.{Looked}
 
 -- ---- node after node
 
@@ -102,12 +100,6 @@ settled_builds a b c form parts made fits places counts within same_cap builds s
       fresh = λ k body was none. (settles.fresh k (subst IsSome (sym (builds.stays k body was)) refl) (builds.fresh k body was none)).1;
     }
 
-pub joined_over : (h n : Heap) (made : ℕ) (form : Form) (parts : List Part) (cap : ℕ) → Joins h n made form parts → 1 ≤ cap → ((k : ℕ) → count_at h k ≤ cap) → (k : ℕ) → count_at n k ≤ cap + slot_holds k (at (map_of n) made)
-joined_over h n made form parts cap joins some within k = elim (cases_eq k made) [
-  | inl same ↦ omega (arith, ap (count_at n) same, joins.count)
-  | inr differ ↦ omega (arith, joins.counts k differ, within k, ap (slot_holds k) joins.is)
-]
-
 -- what a slot holds is there
 pub slot_key_there : (h : Heap) (places : List Part) (node place key : ℕ) → Counts h places → IsNodeSlot (map_of h) node place → part_of (at (map_of h) node) place ≡ Key key → ContainsKey h.nodes key
 slot_key_there h places node place key counts there is =
@@ -126,17 +118,6 @@ settled_fails h s t first node rest settled spares base more none =
     spares base one.0 (one.1 node (omega (arith, times-append node rest (node ∷ []), times_one node)))
     (λ k some. one.1 k (omega (arith, some, times-append k rest (node ∷ []))))
 
--- the next slot is there
-pub looked_slot : (h s : Heap) (node place many : ℕ) (before todo : List ℕ) → Looked h s node place many before todo → place < many → IsNodeSlot (map_of s) node place
-looked_slot h s node place many before todo looked below = elim (some_or_none (at (map_of s) node)) [
-  | inl found ↦ record { body = found.0; was = found.1; within = omega (arith, below, looked.long, ap length (ap parts_in found.1)) }
-  | inr none ↦ absurd (not_there (at (map_of s) node) none looked.here)
-]
-
--- where a part could not be settled, a map that lacks the node and those to do stays
-pub looked_fails : (h s t : Heap) (node place many : ℕ) (before todo : List ℕ) → Looked h s node place many before todo → ((base : Map) → More base (map_of s) → at base node ≡ None → More base (map_of t)) → Spares h t node before
-looked_fails h s t node place many before todo looked spares base more none lacks = spares base (looked.spares base more none lacks).0 none
-
 -- where the rest could not be settled, the new node is let go of, and the heap is as it was
 pub unsettled : (s0 s1 s2 s3 : Heap) (form : Form) (parts : List Part) (made : ℕ) (places : List Part) → Builds s0 s1 form parts made → Counts s0 places → Settles s1 s2 → ((base : Map) → More base (map_of s1) → at base made ≡ None → More base (map_of s2)) → ((others : List Part) → Counts s2 (Key made ∷ others) → Leads s2 s3 [] others) → Upheld s2 (map_of s3) (Key made) → SameNodes s0 s3
 unsettled s0 s1 s2 s3 form parts made places builds counts settles spares frees upheld =
@@ -145,23 +126,6 @@ unsettled s0 s1 s2 s3 form parts made places builds counts settles spares frees 
     (upheld (map_of s0) places still
     (λ k b was. omega (arith, counts.counted k, counts.alive k (subst IsSome (sym was) refl)))
     (spares (map_of s0) builds.stays builds.vacant))
-
--- the new node and its parts are within the cap where its parts are
-pub joined_settled : (h n : Heap) (made : ℕ) (form : Form) (parts : List Part) (cap : ℕ) → Joins h n made form parts → 1 ≤ cap → ((k : ℕ) → count_at h k ≤ cap) → ((k : ℕ) → 1 ≤ held k parts → count_at n k ≤ cap) → (k : ℕ) → count_at n k ≤ cap
-joined_settled h n made form parts cap joins some within settled k = elim (cases_eq k made) [
-  | inl same ↦ omega (arith, ap (count_at n) same, joins.count)
-  | inr differ ↦ elim (cases_eq (held k parts) 0) [
-    | inl none ↦ omega (arith, joins.counts k differ, within k)
-    | inr held_once ↦ settled k (omega (arith, held_once))
-  ]
-]
-
--- where each part has room, none has too many holders
-pub joined_room : (h n : Heap) (made : ℕ) (form : Form) (parts : List Part) (k : ℕ) → Joins h n made form parts → HasRoom h parts → 1 ≤ h.cap → 1 ≤ held k parts → n.cap < count_at n k → n.cap ≡ h.cap → ⊥
-joined_room h n made form parts k joins room one some over cap = elim (cases_eq k made) [
-  | inl same ↦ omega (arith, ap (count_at n) same, joins.count, over, cap, one)
-  | inr differ ↦ omega (arith, joins.counts k differ, room k some, over, cap)
-]
 
 pub joined_copies : (h n : Heap) (made : ℕ) (form : Form) (parts : List Part) → Joins h n made form parts → n.copies ≡ h.copies → CopiesBeside 1 h n
 joined_copies h n made form parts joins same = (0, omega (arith, size_joined h n made form parts joins), same)

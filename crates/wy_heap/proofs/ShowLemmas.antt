@@ -1,6 +1,7 @@
 -- The text of a datum, a part at a time.
 use Rattle.std.proofs.Common.{◌≡◌, ℕ, zero, suc, ◌+◌, ◌*◌, ◌≤◌, ◌<◌, List, [], ◌∷◌, ◌++◌, get_or, length, Option, Some, None, refl, sym, ◌∙◌, ap, subst, arith, append-nil, append_assoc, slice_get}
 use Rattle.slab.specs.Slab.{get}
+use Rattle.wy_heap.proofs.BuildLemmas.{length-named}
 use Rattle.wy_value.specs.declared.shapes.Shapes.{Shapes}
 use Rattle.wy_value.specs.Shapes.{named}
 use Rattle.wy_value.specs.Datum.{Datum, Data, no_items, item, Fields, no_fields, field}
@@ -13,15 +14,15 @@ use Rattle.wy_heap.specs.declared.node.Shape.{Shape}
 use Rattle.wy_heap.specs.declared.node.Shape.TheVariants as shape
 use Rattle.wy_heap.specs.declared.node.Node.{Node}
 use Rattle.wy_heap.specs.declared.heap.Heap.{Heap}
-use Rattle.wy_heap.specs.Nodes.{Form, list_form, record_form, record_of, form_of, Body, Map, map_of, at, form_in, parts_in}
+use Rattle.wy_heap.specs.Nodes.{Form, record_form, record_of, form_of, Body, Map, map_of, at, form_in, parts_in}
 use Rattle.wy_heap.specs.Meaning.{data_in, Means, IsSplit, IsMeant}
 use Rattle.wy_heap.specs.Slots.{nth, part_of}
 use Rattle.wy_heap.specs.Weighing.{total, weight}
 use Rattle.wy_heap.specs.Showing.{opening, closing, separator, lead_of, items_from, fields_from, shown_from, Rest, IsLeft, AreLeft, IsText, rest_work, rest_works, GoesOn}
 use Rattle.wy_heap.proofs.MeaningLemmas.{means_unique, mean_all-length, mean_all-nth}
-use Rattle.wy_heap.proofs.SlotLemmas.{held_node, node_form, node_parts, body-node}
+use Rattle.wy_heap.proofs.SlotLemmas.{held_node, node_form, node_parts, data_in-length}
 use Rattle.wy_heap.proofs.WeighLemmas.{tree_some, tree-split, weight-tree, total-trees}
-use Rattle.wy_heap.proofs.CompareLemmas.{total-drop_more}
+use Rattle.wy_heap.proofs.CompareLemmas.{total-drop_more, record_not_list}
 
 -- ---- lists of what is left
 
@@ -72,10 +73,6 @@ fields_from-end no_fields (suc i) past = refl
 fields_from-end (field n d fs) zero past = absurd (omega arith)
 fields_from-end (field n d fs) (suc i) past = fields_from-end fs i (omega arith)
 
-data_in-length : (fs : Fields) → length_of (data_in fs) ≡ length (names_of fs)
-data_in-length no_fields = refl
-data_in-length (field n d fs) = omega (arith, data_in-length fs)
-
 array_step : (items : Data) (i : ℕ) → i < length_of items → shown_from (datum.Array items) i ≡ separator i ++ (shown (nth items i) ++ shown_from (datum.Array items) (suc i))
 array_step no_items i below = absurd (omega arith)
 array_step (item d ds) zero below = append_assoc (shown d) (more_items ds) (93 ∷ []) ∙ ap (λ (es : Data). shown d ++ (more_items es ++ 93 ∷ [])) (from_zero ds)
@@ -121,10 +118,6 @@ shown_step (datum.Record fs) form ds i split below =
     record_step fs i (omega (arith, below, ap length_of split.1, data_in-length fs))
     ∙ ap (λ (es : Data). (separator i ++ (get_or (names_of fs) i [] ++ 58 ∷ 32 ∷ [])) ++ (shown (nth es i) ++ shown_from (datum.Record fs) (suc i))) (sym split.1)
     ∙ ap (λ (f : Form). lead_of f i ++ (shown (nth ds i) ++ shown_from (datum.Record fs) (suc i))) (sym split.0)
-
-record_not_list : (names : List (List ℕ)) (o : Option (List ℕ)) → record_of names o ≡ list_form → ⊥
-record_not_list names None same = cc
-record_not_list names (Some list) same = cc
 
 -- the text begins with the bracket of its node's shape
 shown_opening : (t : Shapes) (s : Shape) (d : Datum) (form : Form) (ds : Data) → IsSplit d form ds → form_of t s ≡ form → shown d ≡ opening s ∷ shown_from d 0
@@ -249,10 +242,6 @@ named-get_or names [] i below = absurd (omega arith)
 named-get_or names (n ∷ ns) zero below = refl
 named-get_or names (n ∷ ns) (suc i) below = named-get_or names ns i (omega arith)
 
-length-named : (names : List (List ℕ)) (list : List ℕ) → length (named names list) ≡ length list
-length-named names [] = refl
-length-named names (n ∷ ns) = omega (arith, length-named names ns)
-
 record_long : (d : Datum) (names : List (List ℕ)) (ds : Data) → IsSplit d (record_form names) ds → length_of ds ≡ length names
 record_long datum.Null names ds split = absurd split
 record_long (datum.Truth b) names ds split = absurd split
@@ -272,13 +261,6 @@ fields_long h key n number list was is found meant =
     let form : node.form ≡ record_form (named h.shapes.names list) = sym (node_form h key n meant.0 node was) ∙ ap (form_of h.shapes) is ∙ ap (record_of h.shapes.names) found in
     let long = record_long meant.0 (named h.shapes.names list) node.data_of (subst (λ (f : Form). IsSplit meant.0 f node.data_of) form node.split) in
     omega (arith, long, length-named h.shapes.names list, ap length (ap parts_in node.is), mean_all-length (map_of h) node.data_of node.parts node.mean)
-
--- the form of a record's node
-pub field_form : (h : Heap) (key : ℕ) (n : Node) (number : ℕ) (list : List ℕ) → get h.nodes key ≡ Some n → n.shape ≡ shape.Record number → slice_get h.shapes.lists number ≡ Some list → form_in (at (map_of h) key) ≡ record_form (named h.shapes.names list)
-field_form h key n number list was is found = ap form_in (body-node h key n was) ∙ ap (form_of h.shapes) is ∙ ap (record_of h.shapes.names) found
-
-pub item_form : (h : Heap) (key : ℕ) (n : Node) → get h.nodes key ≡ Some n → n.shape ≡ shape.Array → form_in (at (map_of h) key) ≡ list_form
-item_form h key n was is = ap form_in (body-node h key n was) ∙ ap (form_of h.shapes) is
 
 -- ---- a turn of the work
 

@@ -101,7 +101,7 @@ shape_known h key n number d was is means =
 
 -- ---- where a slot lies
 
-data_in-length : (fs : Fields) → length_of (data_in fs) ≡ length (names_of fs)
+pub data_in-length : (fs : Fields) → length_of (data_in fs) ≡ length (names_of fs)
 data_in-length no_fields = refl
 data_in-length (field n d fs) = omega (arith, data_in-length fs)
 
@@ -190,10 +190,6 @@ step_name names f d has = known (slice_get names f) d has
     known None (datum.Record fs) has = absurd has
     known (Some name) d has = (name, refl)
 
-pub item_place : (h : Heap) (key : ℕ) (n : Node) (i : ℕ) → get h.nodes key ≡ Some n → n.shape ≡ shape.Array → i ≡ place_in (form_in (at (map_of h) key)) (item_at i)
-item_place h key n i was is =
-    sym (ap (λ (o : Option Body). place_in (form_in o) (item_at i)) (body-node h key n was) ∙ ap (λ (s : Shape). place_in (form_of h.shapes s) (item_at i)) is)
-
 pub field_place : (h : Heap) (key : ℕ) (n : Node) (number f : ℕ) (d : Datum) (list : List ℕ) → IsShapes h.shapes → get h.nodes key ≡ Some n → n.shape ≡ shape.Record number → HasStep d (step_of h.shapes (Field f)) → slice_get h.shapes.lists number ≡ Some list → number_position f list ≡ place_in (form_in (at (map_of h) key)) (step_of h.shapes (Field f))
 field_place h key n number f d list table was is has found =
     let name = step_name h.shapes.names f d has in
@@ -209,29 +205,3 @@ field_place h key n number f d list table was is has found =
     ∙ ap (λ (o : Option (List ℕ)). place_in (record_form (named h.shapes.names list)) (field_step o)) name.1
     ∙ ap (λ (l : List ℕ). position_of l (named h.shapes.names list)) (sym same)
     ∙ place)
-
--- the other pairs of a shape and a slot have no step
-pub array_field : (h : Heap) (key : ℕ) (n : Node) (s : Step) (d : Datum) → get h.nodes key ≡ Some n → n.shape ≡ shape.Array → Means (map_of h) d (Key key) → HasStep d s → (i : ℕ) × (s ≡ item_at i)
-array_field h key n s datum.Null was is means has = absurd has
-array_field h key n s (datum.Truth b) was is means has = absurd has
-array_field h key n s (datum.Whole z) was is means has = absurd has
-array_field h key n (item_at i) (datum.Array items) was is means has = (i, refl)
-array_field h key n (field_named name) (datum.Array items) was is means has = absurd has
-array_field h key n no_step (datum.Array items) was is means has = absurd has
-array_field h key n s (datum.Record fs) was is means has =
-    let node = held_node h (Key key) key (datum.Record fs) refl means in
-    let form = sym (ap (form_of h.shapes) is) ∙ node_form h key n (datum.Record fs) node was in
-    let other = node.split.0 in
-    absurd (cc)
-
-pub record_field : (h : Heap) (key : ℕ) (n : Node) (number : ℕ) (i : ℕ) (d : Datum) → get h.nodes key ≡ Some n → n.shape ≡ shape.Record number → Means (map_of h) d (Key key) → HasStep d (item_at i) → ⊥
-record_field h key n number i datum.Null was is means has = has
-record_field h key n number i (datum.Truth b) was is means has = has
-record_field h key n number i (datum.Whole z) was is means has = has
-record_field h key n number i (datum.Array items) was is means has =
-    let node = held_node h (Key key) key (datum.Array items) refl means in
-    let known = shape_known h key n number (datum.Array items) was is means in
-    let form : record_form (named h.shapes.names known.0) ≡ node.form = ap (record_of h.shapes.names) (sym known.1) ∙ sym (ap (form_of h.shapes) is) ∙ node_form h key n (datum.Array items) node was in
-    let other = node.split.0 in
-    cc
-record_field h key n number i (datum.Record fs) was is means has = has

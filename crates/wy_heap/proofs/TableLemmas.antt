@@ -4,6 +4,7 @@ use Rattle.std.proofs.lemmas.Option.{slice_get_within, get_or_from_slice_get}
 use Rattle.std.specs.List.{All}
 use Rattle.std.specs.Option.{MatchOption}
 use Rattle.wy_data.specs.Words.{IsName}
+use Rattle.wy_lemmas.proofs.Lists.{get_front as slice_get_more}
 use Rattle.wy_value.specs.declared.shapes.Shapes.{Shapes}
 use Rattle.wy_value.specs.declared.value.Value.{Value}
 use Rattle.wy_value.specs.Shapes.{named, AreApart, IsShapes}
@@ -22,15 +23,6 @@ last_at (y ∷ ys) x (suc k) d below = elim (last_at ys x k d (omega arith)) [
   | inl before ↦ inl (omega (arith, before.0), before.1)
   | inr last ↦ inr (omega (arith, last.0), last.1)
 ]
-
-pub slice_get_more : {X : Type 0} (xs ys : List X) (n : ℕ) (x : X) → slice_get xs n ≡ Some x → slice_get (xs ++ ys) n ≡ Some x
-slice_get_more [] ys n x is = absurd (cc)
-slice_get_more (y ∷ xs) ys zero x is = is
-slice_get_more (y ∷ xs) ys (suc n) x is = slice_get_more xs ys n x is
-
-pub slice_get_last : {X : Type 0} (xs : List X) (x : X) → slice_get (xs ++ x ∷ []) (length xs) ≡ Some x
-slice_get_last [] x = refl
-slice_get_last (y ∷ xs) x = slice_get_last xs x
 
 all_more : {X : Type 0} (P : X → Type 0) (xs : List X) (x : X) → All P xs → P x → All P (xs ++ x ∷ [])
 all_more P xs x all here k d below = elim (last_at xs x k d below) [
@@ -100,9 +92,6 @@ list_table t list names table are rises absent = record {
 named-append : (names : List (List ℕ)) (xs ys : List ℕ) → named names (xs ++ ys) ≡ named names xs ++ named names ys
 named-append names [] ys = refl
 named-append names (x ∷ xs) ys = ap (λ (l : List (List ℕ)). get_or names x [] ∷ l) (named-append names xs ys)
-
-pub named_none : (t : Shapes) → AreNamed t [] []
-named_none t = record { are = refl; within = λ k below. absurd (omega arith) }
 
 -- one number more, in a table that may have grown
 pub named_step : (t u : Shapes) (list : List ℕ) (names : List (List ℕ)) (n : ℕ) (x : List ℕ) → AreNamed t list names → Extends t u → slice_get u.names n ≡ Some x → AreNamed u (list ++ n ∷ []) (names ++ x ∷ [])

@@ -18,7 +18,7 @@ use Rattle.wy_heap.specs.Standing.{IsCounted, Counts, Keeps}
 use Rattle.wy_heap.specs.Slots.{put_nth, put_field, part_of}
 use Rattle.wy_heap.specs.Making.{IsNew}
 use Rattle.wy_heap.specs.Changing.{Leads, Changes, Adds, Joins, Swaps, IsNodeSlot, AreThere, Fits, Builds}
-use Rattle.wy_heap.proofs.CountLemmas.{held-append, held-le-length, held-set, holds-get_or, holds_one, holds_other, holds_is, inner_updated, slot-le-inner, inner_part}
+use Rattle.wy_heap.proofs.CountLemmas.{held-append, held-set, holds-get_or, holds_one, holds_other, holds_is, inner_updated, slot-le-inner, inner_part}
 use Rattle.wy_heap.proofs.ChangeLemmas.{at-map_of, at_changed, at_others, count_changed, count_others, contains_from_at, at_from_contains, count_there, count_none, at_none}
 use Rattle.wy_heap.proofs.MeaningLemmas.{Each, IsClosed, means_kept, mean_all_kept, each_held, means_from_node, node_from_means, split_of, node_at, same_form}
 use Rattle.wy_heap.proofs.LeadLemmas.{part_meant, held_meant}
@@ -367,13 +367,3 @@ node_parts_there h places key b counts is k some =
 pub set_parts_there : (h : Heap) (places : List Part) (key : ℕ) (b : Body) (place : ℕ) → Counts h places → at (map_of h) key ≡ Some b → place < length b.parts → AreThere h (set b.parts place Null)
 set_parts_there h places key b place counts is within k some =
     node_parts_there h places key b counts is k (omega (arith, held-set k b.parts place Null within))
-
--- the new node and its parts are within the cap
-pub joined_within : (h n : Heap) (made : ℕ) (form : Form) (parts : List Part) (cap : ℕ) → Joins h n made form parts → 1 ≤ cap → ((k : ℕ) → count_at h k ≤ cap) → ((k : ℕ) → 1 ≤ held k parts → count_at h k + length parts ≤ cap) → (k : ℕ) → count_at n k ≤ cap
-joined_within h n made form parts cap joins some within more k = elim (cases_eq k made) [
-  | inl same ↦ omega (arith, ap (count_at n) same, joins.count)
-  | inr differ ↦ elim (cases_eq (held k parts) 0) [
-    | inl none ↦ omega (arith, joins.counts k differ, within k)
-    | inr held_once ↦ omega (arith, joins.counts k differ, more k (omega (arith, held_once)), held-le-length k parts)
-  ]
-]

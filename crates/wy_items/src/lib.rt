@@ -5,11 +5,16 @@
 //! inside, so a tree made of them is plain data: `≡` between two trees says that they are the same tree,
 //! and an antt function can be their definition. Neither costs anything at run time.
 //!
+//! `NoMemory` is what a call answers that lacks memory.
+//!
 //! `specs/formers` says how each keeps its values, which lets a type hold itself through them.
 #![tactic(auto)]
 
 mod boxed;
+pub mod few;
 mod items;
+mod memory;
 
 pub use boxed::Boxed;
 pub use items::{Items, at};
+pub use memory::NoMemory;

@@ -1,5 +1,5 @@
 -- What stands before a fault that is met, with its first character, can go on.
-use Rattle.std.proofs.Common.{◌≡◌, ℕ, suc, ◌==◌, Bool, true, false, ◌||◌, true≢false, List, [], ◌∷◌, ◌++◌, length, Some, ◌⊎◌, inl, inr, refl, sym, ap, ◌∙◌, subst, arith, append_assoc}
+use Rattle.std.proofs.Common.{◌≡◌, ℕ, suc, ◌==◌, Bool, true, false, ◌||◌, true≢false, List, [], ◌∷◌, ◌++◌, length, Some, inl, inr, refl, sym, ap, ◌∙◌, subst, arith, append_assoc}
 use Rattle.wy_reading.specs.Mode.{Mode, Looser}
 use Rattle.wy_reading.specs.Rule.{Rule, heads, One, Pure, Then, Or, Loop, Turns}
 use Rattle.wy_reading.specs.Rule.Turns.{stop, more}
@@ -188,10 +188,6 @@ slash_reads : (s : State) (j : List Symbol) (k : ℕ) (v : Solidus × ℕ) (l : 
 slash_reads s j k v l r n =
     at_first s r.0 r.1 j k r.2.1 n [] (placed s kinds.Slash r.0.at class.Remark)
     (inr (inr (inl ((solidus.Sign, r.0.at), [], (((r.0, [], (r.2.0, refl), inr (inr (refl, (refl, refl)))), refl), refl), (refl, refl)))))
-
-skip_none : (x : Kind) (k : ℕ) (h : ⊥ ⊎ ⊥) → ⊥
-skip_none x k (inl h) = h
-skip_none x k (inr h) = h
 
 stroke_none : (j : List Symbol) (x : Kind) (k : ℕ) → Stroke.meets j x k → ⊥
 stroke_none j x k (inl h) = h

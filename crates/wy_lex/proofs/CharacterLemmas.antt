@@ -4,6 +4,7 @@ use Rattle.std.specs.Char.{is_ascii_alphabetic, is_ascii_alphanumeric}
 use Rattle.std.proofs.lemmas.Bool.{leb-true}
 use Rattle.wy_data.proofs.WordLemmas.{is_start-ascii, is_part-ascii}
 use Rattle.wy_data.specs.Words.{is_start, is_part}
+use Rattle.wy_lemmas.proofs.Choices.{not_true as not-true, and-left, and-right, or_cases as or-cases}
 use Rattle.wy_reading.specs.Rule.{heads, among}
 use Rattle.wy_reading.proofs.Exactness.{Passes, Lacks}
 use Rattle.wy_reading.proofs.SymbolSets.{heads-at}
@@ -46,18 +47,6 @@ apart x y h (s ∷ i) g = h s.character g
 abbrev other_ascii : ℕ → Bool
 other_ascii c = nat_le c 127 && not (is_ascii_alphabetic c || (c == 95))
 
-and-left : (a b : Bool) → (a && b) ≡ true → a ≡ true
-and-left true b h = refl
-and-left false b h = absurd (true≢false (sym h))
-
-and-right : (a b : Bool) → (a && b) ≡ true → b ≡ true
-and-right true b h = h
-and-right false b h = absurd (true≢false (sym h))
-
-not-true : (b : Bool) → not b ≡ true → b ≡ false
-not-true true h = absurd (true≢false (sym h))
-not-true false h = refl
-
 no_start-ascii : (c : ℕ) → other_ascii c ≡ true → is_start c ≡ false
 no_start-ascii c h =
     let le = leb-true c 127 (and-left (nat_le c 127) (not (is_ascii_alphabetic c || (c == 95))) h) in
@@ -84,10 +73,6 @@ is_digit-among c h =
     let low = leb-true 48 c (and-left (nat_le 48 c) (nat_le c 57) h) in
     let high = leb-true c 57 (and-right (nat_le 48 c) (nat_le c 57) h) in
     grind (arith, low, high)
-
-or-cases : (a b : Bool) → (a || b) ≡ true → (a ≡ true) ⊎ (b ≡ true)
-or-cases true b h = inl refl
-or-cases false b h = inr h
 
 -- where no digit, no quote and no sign passes, what begins a literal or a symbol doesn't
 pub other-cases : (test : ℕ → Bool) → every test digits ≡ true → test 34 ≡ true → every test signs ≡ true → (c : ℕ) → is_other c ≡ true → test c ≡ true

@@ -115,9 +115,6 @@ FollowSolidus solidus.Line = Lacks (holds class.NoLineEnd)
 FollowSolidus solidus.Block = Any
 FollowSolidus solidus.Open = AtEnd
 
-abbrev ClosedReads : List Symbol → Solidus → List Symbol → Type 0
-ClosedReads i v j = Closed.reads i v j
-
 pub closed-sound : (i : List Symbol) (v : Solidus) (j : List Symbol) → closed i ≡ Ok (v, j) → Closed.reads i v j
 unfolding closed
 closed-sound i v j e = by (behind_close i) (outcome i) e

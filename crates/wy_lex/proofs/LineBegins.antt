@@ -1,11 +1,12 @@
 -- What a line that begins makes of tokens and blocks is exactly what its indentation and the open blocks say.
-use Rattle.std.proofs.Common.{◌≡◌, ◌≤◌, ◌<◌, ℕ, zero, suc, ◌+◌, ◌-◌, Bool, true, false, cond, ◌&&◌, nat_lt, true≢false, List, [], ◌∷◌, ◌++◌, length, take, drop, slice_index_or, Option, Some, None, refl, sym, ap, ◌∙◌, subst, arith, length-append, append_assoc}
+use Rattle.std.proofs.Common.{◌≡◌, ◌≤◌, ◌<◌, ℕ, zero, suc, ◌+◌, ◌-◌, Bool, true, false, cond, nat_lt, List, [], ◌∷◌, ◌++◌, length, take, drop, slice_index_or, Option, Some, None, refl, sym, ap, ◌∙◌, subst, arith, length-append, append_assoc}
 use Rattle.std.specs.Bool.{⊤}
 use Rattle.std.specs.Str.{bytes_eq}
 use Rattle.std.proofs.Math.Seq.{get_or-append_seam, take-append_seam}
 use Rattle.std.proofs.lemmas.List.{take-append-drop, length-drop}
-use Rattle.std.proofs.lemmas.Slice.Eq.{bytes_eq-Decides}
 use Rattle.std.proofs.lemmas.Bool.{ltb-true, lt-ltb}
+use Rattle.wy_lemmas.proofs.Choices.{and-left, and-right}
+use Rattle.wy_lemmas.proofs.Lists.{bytes_self, bytes_are}
 use Rattle.wy_lex.specs.declared.token.TokenKind.{TokenKind}
 use Rattle.wy_lex.specs.declared.token.TokenKind.TheVariants as k
 use Rattle.wy_lex.specs.declared.layout.State.{State}
@@ -13,21 +14,7 @@ use Rattle.wy_lex.specs.Layout.{token, level_from, level, innermost, is_deeper, 
 use Rattle.wy_lex.specs.Lines.{IsDeeper, Deepens, IsNest, times, Begins, MayBegin, Enters, all_at}
 use Rattle.wy_lex.specs.Lines.Begins.{continues, opens}
 
-and-left : (a b : Bool) → (a && b) ≡ true → a ≡ true
-and-left true b h = refl
-and-left false b h = absurd (true≢false (sym h))
-
-and-right : (a b : Bool) → (a && b) ≡ true → b ≡ true
-and-right true b h = h
-and-right false b h = absurd (true≢false (sym h))
-
 -- ---- indentations
-
-bytes_self : (w : List ℕ) → bytes_eq w w ≡ true
-bytes_self w = (bytes_eq-Decides w w).1 refl
-
-bytes_are : (b w : List ℕ) → bytes_eq b w ≡ true → b ≡ w
-bytes_are b w h = (bytes_eq-Decides b w).0 h
 
 bytes_differ : (b w : List ℕ) → length b < length w → bytes_eq b w ≡ false
 bytes_differ b w h = by (bytes_eq b w) refl

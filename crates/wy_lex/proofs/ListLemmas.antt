@@ -1,9 +1,10 @@
 -- What holds of tokens and of characters, in lists that are put together.
-use Rattle.std.proofs.Common.{◌≡◌, ◌≤◌, ℕ, zero, suc, ◌+◌, ◌==◌, Bool, true, false, cond, ◌&&◌, true≢false, List, [], ◌∷◌, ◌++◌, length, refl, sym, ap, subst, arith, length-append}
+use Rattle.std.proofs.Common.{◌≡◌, ◌≤◌, ℕ, zero, suc, ◌+◌, ◌==◌, Bool, true, false, cond, ◌&&◌, List, [], ◌∷◌, ◌++◌, length, refl, sym, ap, subst, arith, length-append}
 use Rattle.std.specs.Char.{encode_utf8}
 use Rattle.std.specs.Str.{IsUtf8, all_scalars, chars, encode_utf8_all}
 use Rattle.std.proofs.lemmas.Str.{encodes-chars, scalars-chars, length-encode, len_utf8_bounds}
 use lib.Utf8.{scalar}
+use Rattle.wy_lemmas.proofs.Choices.{and-left, and-right}
 use Rattle.wy_reading.specs.Rule.{Rule, Turns}
 use Rattle.wy_reading.specs.Rule.Turns.{stop, more}
 use Rattle.wy_reading.specs.Rule.{heads}
@@ -35,13 +36,6 @@ each-outs P h (suc n) at = (h, each-outs P h n at)
 
 -- ---- rising places
 
-pub behind-least : (t : Token) → t.at ≤ behind t
-behind-least t = by (has_text t.kind)
-  where
-    by : (b : Bool) → t.at ≤ cond b (suc t.at) t.at
-    by true = omega arith
-    by false = omega arith
-
 pub behind-most : (t : Token) (to : ℕ) → suc t.at ≤ to → behind t ≤ to
 behind-most t to h = by (has_text t.kind)
   where
@@ -66,14 +60,6 @@ rises-outs zero at = omega arith
 rises-outs (suc n) at = (omega arith, rises-outs n at)
 
 -- ---- characters
-
-and-left : (a b : Bool) → (a && b) ≡ true → a ≡ true
-and-left true b h = refl
-and-left false b h = absurd (true≢false (sym h))
-
-and-right : (a b : Bool) → (a && b) ≡ true → b ≡ true
-and-right true b h = h
-and-right false b h = absurd (true≢false (sym h))
 
 -- the characters stand from the place on, one behind the other, up to the end
 abbrev pub Stands : ℕ → ℕ → List Symbol → Type 0

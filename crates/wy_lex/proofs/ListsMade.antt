@@ -6,6 +6,8 @@ use Rattle.std.proofs.lemmas.Str.{chars-encodes}
 use Rattle.std.proofs.lemmas.Bool.{leb-true}
 use lib.Utf8.{scalar}
 use Rattle.wy_data.specs.Words.{is_word, all_parts, is_keyword, among, keywords}
+use Rattle.wy_lemmas.proofs.Choices.{and-left, and-right, or_false as or-false, or_left as or-here}
+use Rattle.wy_reading.specs.ListGrammar.{number_from}
 use Rattle.wy_reading.specs.Rule.{One, Pure, Then, Or, Unless, Word, Skip, Letter, Turns}
 use Rattle.wy_lex.specs.declared.fault.Kind.{Kind}
 use Rattle.wy_lex.specs.declared.fault.LexFault.{LexFault}
@@ -22,7 +24,7 @@ use Rattle.wy_lex.specs.declared.layout.Line.{Line}
 use Rattle.wy_lex.specs.declared.layout.Line.TheVariants as line
 use Rattle.wy_lex.specs.declared.layout.State.{State}
 use Rattle.wy_lex.specs.Symbols.{holds, codes_of, bytes_of, place, symbols, is_plain}
-use Rattle.wy_lex.specs.Kinds.{word_kinds, kind_from, word_kind, continues, greatest, number_from, all_digits, single, second, double, third, triple}
+use Rattle.wy_lex.specs.Kinds.{word_kinds, kind_from, word_kind, continues, greatest, all_digits, single, second, double, third, triple}
 use Rattle.wy_lex.specs.Layout.{token, fits, level, innermost, is_deeper, may_stand_in, may_stand, is_within, ending, last_ending, outs, first_state, begun, added, placed, passed, finished}
 use Rattle.wy_lex.specs.Grammar.{is, lexeme, WordPiece, Numeral, Text, Further, UnitOf, Behind, meant, is_escape, means, code_or_zero, Sign, Other, OtherPiece, placed_at, Closed, Stroke, SlashPiece, may_be, struck, Blanks, Gap, Break, Piece, Next}
 use Rattle.wy_lex.specs.Source.{Tokens, tokens_read, Answers}
@@ -33,26 +35,11 @@ use Rattle.wy_lex.proofs.ListLemmas.{turns-keep, each-append, each-outs, behind-
 use Rattle.wy_lex.proofs.Refusals.{read-spells}
 use Rattle.wy_lex.proofs.LineBegins.{fits-begins, begins-entered, begins-nest}
 
-and-left : (a b : Bool) → (a && b) ≡ true → a ≡ true
-and-left true b h = refl
-and-left false b h = absurd (true≢false (sym h))
-
-and-right : (a b : Bool) → (a && b) ≡ true → b ≡ true
-and-right true b h = h
-and-right false b h = absurd (true≢false (sym h))
-
 -- ---- tokens before the end
 
 pub record Inner (kind : TokenKind) : Type 0 where
   pub no_end : NoEnd kind
   pub proper : IsProper kind
-
-inner-if : (b : Bool) (x y : TokenKind) → Inner x → Inner y → Inner (cond b x y)
-inner-if true x y h g = h
-inner-if false x y h g = g
-
-plain : {kind : TokenKind} → NoEnd kind → IsProper kind → Inner kind
-plain e p = record { no_end = e; proper = p }
 
 each-no_end : (ts : List Token) → Each Inner ts → Each NoEnd ts
 each-no_end [] h = tt
@@ -344,10 +331,6 @@ added-kept size at s kind more j each rises nest inner later = (
   },
 )
 
-or-false : (a b : Bool) → (a || b) ≡ false → (a ≡ false) × (b ≡ false)
-or-false true b h = absurd (true≢false h)
-or-false false b h = (refl, h)
-
 or-left : (a b : Bool) → (a || b) ≡ true → b ≡ false → a ≡ true
 or-left true b h e = refl
 or-left false b h e = absurd (true≢false (sym h ∙ e))
@@ -386,10 +369,6 @@ word-kept size at s i t j r h made =
     let d = spelled class.Start class.Part size at i w r.1 r.2.0 h in
     subst (λ x. Kept size x j) (sym r.3.0)
     (placed-kept size at (place w) s (word_kind (bytes_of w)) class.Part j r.2.1 made (spelled-place class.Start class.Part size at w r.1 d) (word-inner size at w r.1 d) (subst (Later size (suc at)) r.3.1 d.later))
-
-or-here : (a b : Bool) → a ≡ true → (a || b) ≡ true
-or-here true b h = refl
-or-here false b h = absurd (true≢false (sym h))
 
 lexeme-kept : (size at : ℕ) (s : State) (i : List Symbol) (t : State) (j : List Symbol) → may_stand s ≡ true → (Then (Other true) (λ l. Pure (placed_at s l))).reads i t j → Stands size at i → Made s at → Kept size t j
 lexeme-kept size at s i t j stand r h made =

@@ -1,6 +1,7 @@
 -- Pieces of a source are read exactly.
 use Rattle.std.proofs.Common.{◌≡◌, ℕ, Bool, true, false, cond, ◌||◌, true≢false, List, [], ◌∷◌, ◌++◌, length, Err, ◌⊎◌, inl, inr, refl, sym, ap, ◌∙◌, subst}
 use Rattle.std.specs.Bool.{⊤}
+use Rattle.wy_lemmas.proofs.Choices.{or_true as or-true}
 use Rattle.wy_reading.specs.declared.stop.Stop.TheVariants.{Fault}
 use Rattle.wy_reading.specs.Mode.{Mode, Looser}
 use Rattle.wy_reading.specs.Rule.{One, Or, Word, Checked, lax}
@@ -44,10 +45,6 @@ placed-more s kind at_token more = by (is_within s.line || continues kind)
     by : (b : Bool) → (let t : State = cond b (added s kind at_token more) (added (begun s at_token) kind at_token more) in t.more) ≡ more
     by true = refl
     by false = refl
-
-or-true : (b : Bool) → (b || true) ≡ true
-or-true true = refl
-or-true false = refl
 
 -- `where`, which continues a line
 abbrev a_word : List Symbol

@@ -1,12 +1,12 @@
 -- The bytes and the numbers that characters spell, one character after another.
-use Rattle.std.proofs.Common.{◌≡◌, ℕ, zero, suc, ◌+◌, ◌-◌, ◌*◌, ◌<◌, ◌≤◌, nat_le, Bool, true, false, true≢false, List, [], ◌∷◌, ◌++◌, length, take, drop, slice_index_or, Some, refl, sym, ap, ◌∙◌, arith, length-append, length-drop, append-nil, append_assoc}
-use Rattle.std.specs.Str.{encode_utf8_all}
+use Rattle.std.proofs.Common.{◌≡◌, ℕ, zero, suc, ◌+◌, ◌-◌, ◌*◌, ◌<◌, ◌≤◌, nat_le, Bool, true, false, true≢false, List, [], ◌∷◌, ◌++◌, length, take, drop, slice_index_or, Some, refl, sym, ap, ◌∙◌, arith, length-drop, append-nil, append_assoc}
 use Rattle.std.specs.Char.{encode_utf8}
 use Rattle.std.proofs.lemmas.Bool.{leb-true}
+use Rattle.wy_reading.specs.ListGrammar.{number_from}
 use Rattle.wy_reading.specs.Rule.{heads}
 use Rattle.wy_lex.specs.declared.symbol.Symbol.{Symbol}
 use Rattle.wy_lex.specs.Symbols.{bytes_of}
-use Rattle.wy_lex.specs.Kinds.{number_from, greatest}
+use Rattle.wy_lex.specs.Kinds.{greatest}
 use Rattle.wy_lex.specs.Grammar.{is}
 use Rattle.wy_lex.specs.Reading.{behind_close}
 
@@ -18,25 +18,6 @@ spelled_next [] n d le = absurd (omega arith)
 spelled_next (s ∷ w) zero d le = append-nil (encode_utf8 s.character)
 spelled_next (s ∷ w) (suc n) d le =
     rw (spelled_next w n d (omega (arith, le))) (sym (append_assoc (encode_utf8 s.character) (bytes_of (take n w)) (encode_utf8 (slice_index_or w n d).character)))
-
-encoded_next : (cs : List ℕ) (n d : ℕ) → n < length cs → encode_utf8_all (take (suc n) cs) ≡ encode_utf8_all (take n cs) ++ encode_utf8 (slice_index_or cs n d)
-encoded_next [] n d le = absurd (omega arith)
-encoded_next (c ∷ cs) zero d le = append-nil (encode_utf8 c)
-encoded_next (c ∷ cs) (suc n) d le = rw (encoded_next cs n d (omega (arith, le))) (sym (append_assoc (encode_utf8 c) (encode_utf8_all (take n cs)) (encode_utf8 (slice_index_or cs n d))))
-
--- one more character has so many bytes more
-pub bytes-take : (cs : List ℕ) (n m c : ℕ) → m ≡ suc n → n < length cs → c ≡ slice_index_or cs n c → length (encode_utf8_all (take m cs)) ≡ length (encode_utf8_all (take n cs)) + length (encode_utf8 c)
-bytes-take cs n m c next le e =
-    let h = encoded_next cs n c le in
-    omega (arith, ap (λ k. length (encode_utf8_all (take k cs))) next, ap length h, length-append (encode_utf8_all (take n cs)) (encode_utf8 (slice_index_or cs n c)), ap (λ d. length (encode_utf8 d)) e)
-
--- fewer characters have no more bytes
-pub bytes-front : (cs : List ℕ) (n : ℕ) → length (encode_utf8_all (take n cs)) ≤ length (encode_utf8_all cs)
-bytes-front [] zero = omega arith
-bytes-front [] (suc n) = omega arith
-bytes-front (c ∷ cs) zero = omega arith
-bytes-front (c ∷ cs) (suc n) =
-    omega (arith, bytes-front cs n, length-append (encode_utf8 c) (encode_utf8_all (take n cs)), length-append (encode_utf8 c) (encode_utf8_all cs))
 
 -- ---- numbers
 

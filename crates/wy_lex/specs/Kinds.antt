@@ -1,5 +1,5 @@
 -- Which words and symbols there are, and what they do to lines and brackets.
-use Rattle.std.specs.Prelude.{ℕ, ◌+◌, ◌-◌, ◌*◌, ◌==◌, ◌&&◌, nat_le, ℤ, pos, Bool, true, false, Option, Some, None, List, [], ◌∷◌, suc, slice_index_or, if◌then◌else◌}
+use Rattle.std.specs.Prelude.{ℕ, ◌+◌, ◌-◌, ◌==◌, ◌&&◌, nat_le, ℤ, pos, Bool, true, false, Option, Some, None, List, [], ◌∷◌, suc, slice_index_or, if◌then◌else◌}
 use Rattle.std.specs.Str.{bytes_eq}
 use Rattle.wy_data.specs.Words.{keywords}
 use Rattle.wy_lex.specs.declared.token.TokenKind.{TokenKind}
@@ -7,6 +7,7 @@ use Rattle.wy_lex.specs.declared.token.TokenKind.TheVariants as k
 use Rattle.wy_lex.specs.declared.symbol.Character.{Character}
 use Rattle.wy_lex.specs.declared.symbol.Character.TheVariants as class
 use Rattle.wy_lex.specs.Symbols.{is_digit}
+use Rattle.wy_reading.specs.ListGrammar.{number_from}
 
 -- ---- words
 
@@ -34,11 +35,6 @@ continues k.Where = true
 continues _ = false
 
 -- ---- numerals
-
--- the number that the digits write, behind those that write n
-abbrev pub number_from : ℕ → List ℕ → ℕ
-number_from n [] = n
-number_from n (d ∷ ds) = number_from (n * 10 + (d - 48)) ds
 
 abbrev pub all_digits : List ℕ → Bool
 all_digits [] = true

@@ -1,40 +1,10 @@
 -- Laws of whole numbers that products need.
-use Rattle.std.proofs.Common.{◌≡◌, ℕ, zero, suc, ℤ, pos, negsuc, ◌+ℤ◌, ◌-ℤ◌, ◌*ℤ◌, ◌≤ℤ◌, neg_ℤ, sym, ap, ◌∙◌, arith}
+use Rattle.std.proofs.Common.{◌≡◌, ℕ, zero, suc, ℤ, pos, negsuc, ◌-ℤ◌, ◌*ℤ◌, ◌≤ℤ◌, neg_ℤ, sym, ap, ◌∙◌, arith}
 use Rattle.std.proofs.lemmas.Int.{ints}
-use Rattle.std.proofs.Math.IntN.{suc_ℤ, pred_ℤ, suc_ℤ-*ℤ, pred_ℤ-*ℤ, suc_ℤ-+ℤ, pred_ℤ-+ℤ, zero-*ℤ, *ℤ_comm, +ℤ_idl, +ℤ_invr}
+use Rattle.std.proofs.Math.IntN.{suc_ℤ, pred_ℤ, suc_ℤ-*ℤ, pred_ℤ-*ℤ, zero-*ℤ, +ℤ_idl, +ℤ_invr}
+use Rattle.wy_term.proofs.wy_lemmas_proofs.Numbers.{distrib_right}
 
 -- ---- a product of a sum
-
-right_up : (a b v : ℤ) → (a +ℤ b) *ℤ v ≡ a *ℤ v +ℤ b *ℤ v → (suc_ℤ a +ℤ b) *ℤ v ≡ suc_ℤ a *ℤ v +ℤ b *ℤ v
-right_up a b v known =
-    let whole = suc_ℤ-*ℤ (a +ℤ b) v in
-    let one = suc_ℤ-*ℤ a v in
-    ap (λ (x : ℤ). x *ℤ v) (suc_ℤ-+ℤ a b) ∙ omega (arith, ints, whole, one, known)
-
-right_down : (a b v : ℤ) → (a +ℤ b) *ℤ v ≡ a *ℤ v +ℤ b *ℤ v → (pred_ℤ a +ℤ b) *ℤ v ≡ pred_ℤ a *ℤ v +ℤ b *ℤ v
-right_down a b v known =
-    let whole = pred_ℤ-*ℤ (a +ℤ b) v in
-    let one = pred_ℤ-*ℤ a v in
-    ap (λ (x : ℤ). x *ℤ v) (pred_ℤ-+ℤ a b) ∙ omega (arith, ints, whole, one, known)
-
-right_zero : (b v : ℤ) → (pos 0 +ℤ b) *ℤ v ≡ pos 0 *ℤ v +ℤ b *ℤ v
-right_zero b v =
-    let none = zero-*ℤ v in
-    ap (λ (x : ℤ). x *ℤ v) (+ℤ_idl b) ∙ omega (arith, ints, none)
-
-pub distrib_right : (a b v : ℤ) → (a +ℤ b) *ℤ v ≡ a *ℤ v +ℤ b *ℤ v
-distrib_right (pos zero) b v = right_zero b v
-distrib_right (pos (suc n)) b v = right_up (pos n) b v (distrib_right (pos n) b v)
-distrib_right (negsuc zero) b v = right_down (pos 0) b v (right_zero b v)
-distrib_right (negsuc (suc n)) b v = right_down (negsuc n) b v (distrib_right (negsuc n) b v)
-
-pub distrib_left : (m a b : ℤ) → m *ℤ (a +ℤ b) ≡ m *ℤ a +ℤ m *ℤ b
-distrib_left m a b =
-    let whole = *ℤ_comm m (a +ℤ b) in
-    let turned = distrib_right a b m in
-    let first = *ℤ_comm a m in
-    let second = *ℤ_comm b m in
-    omega (arith, ints, whole, turned, first, second)
 
 -- ---- a product of three
 
@@ -66,9 +36,6 @@ times_assoc (negsuc (suc n)) c v = assoc_down (negsuc n) c v (times_assoc (negsu
 
 pub times_pos : (m : ℕ) (x : ℤ) → pos 0 ≤ℤ x → pos 0 ≤ℤ (pos m *ℤ x)
 times_pos m x h = grind (arith, ints)
-
-pub one_times : (x : ℤ) → pos 1 *ℤ x ≡ x
-one_times x = suc_ℤ-*ℤ (pos 0) x ∙ ap (λ (y : ℤ). y +ℤ x) (zero-*ℤ x) ∙ +ℤ_idl x
 
 pub minus_times : (x : ℤ) → negsuc 0 *ℤ x ≡ neg_ℤ x
 minus_times x = pred_ℤ-*ℤ (pos 0) x ∙ ap (λ (y : ℤ). y -ℤ x) (zero-*ℤ x) ∙ +ℤ_idl (neg_ℤ x)

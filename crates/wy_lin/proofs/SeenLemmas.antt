@@ -1,6 +1,9 @@
 -- Forms over numbers, seen as forms over the terms that the numbers name: sums of them agree.
 use Rattle.std.proofs.Common.{◌≡◌, ◌<◌, ℕ, zero, suc, List, [], ◌∷◌, All, map, Bool, true, false, cond, eqb, ℤ, Option, Some, None, Result, Ok, Err, refl, sym, ap, subst, ◌∙◌, arith}
 use Rattle.std.specs.Prelude.{IfOk}
+use Rattle.wy_term.proofs.wy_lemmas_proofs.Choices.{eqb_itself as eqb_self}
+use Rattle.wy_term.proofs.wy_lemmas_proofs.Lists.{first_of, rest_of}
+use Rattle.wy_term.proofs.wy_lemmas_proofs.Options.{some, some_same as some_is}
 use Rattle.wy_term.specs.Term.{Term}
 use Rattle.wy_term.specs.Same.{same_term}
 use Rattle.wy_lin.specs.declared.arithmetic.Factor.{Factor}
@@ -10,17 +13,11 @@ use Rattle.wy_lin.specs.declared.sum.Sum.{Sum}
 use Rattle.wy_lin.specs.Linear.{◌>>=◌, more, Linear, coefficient, with_coefficient, plus_part, plus_parts, plus}
 use Rattle.wy_lin.specs.TermForm.{with}
 use Rattle.wy_lin.specs.Seen.{Gives, IsOver, linear_sum, seen, seen_part, seen_sum}
-use Rattle.wy_lin.proofs.OptionLemmas.{some, bind_some, some_is}
-use Rattle.wy_term.proofs.SameLemmas.{terms_are, terms_self, eqb_self}
+use Rattle.wy_lin.proofs.OptionLemmas.{bind_some}
+use Rattle.wy_term.proofs.SameLemmas.{terms_are, terms_self}
 use Rattle.std.proofs.lemmas.Bool.{eqb-true}
 
 -- ---- lists whose items all are so
-
-pub first_of : {X : Type 0} (P : X → Type 0) (x : X) (xs : List X) → All P (x ∷ xs) → P x
-first_of P x xs all = all 0 x (omega arith)
-
-pub rest_of : {X : Type 0} (P : X → Type 0) (x : X) (xs : List X) → All P (x ∷ xs) → All P xs
-rest_of P x xs all i d lt = all (suc i) d (omega (arith, lt))
 
 pub all_none : {X : Type 0} (P : X → Type 0) → All P []
 all_none P i d lt = absurd (omega (arith, lt))

@@ -3,12 +3,10 @@ use Rattle.std.proofs.Common.{◌≡◌, ℕ, zero, suc, List, [], ◌∷◌, ge
 use Rattle.std.specs.Prelude.{slice_get}
 use Rattle.std.specs.Map.{lookup}
 use Rattle.indexmap.specs.IndexMap.{insert_entry}
+use Rattle.wy_term.proofs.wy_lemmas_proofs.Options.{some}
 use Rattle.wy_lin.specs.declared.arithmetic.Factor.{Factor}
-use Rattle.wy_lin.specs.declared.stop.Stop.{Stop}
-use Rattle.wy_lin.specs.declared.stop.Stop.TheVariants.{Undefined, NoMemory}
 use Rattle.wy_lin.specs.Linear.{◌>>=◌, more, coefficient, with_coefficient, plus_part}
-use Rattle.wy_lin.specs.Seen.{Stops, turned}
-use Rattle.wy_lin.proofs.OptionLemmas.{some}
+use Rattle.wy_lin.specs.Seen.{turned}
 
 abbrev or_zero : Option ℤ → ℤ
 or_zero None = pos 0
@@ -42,12 +40,6 @@ part_put es new m c a d v is gave put =
     ap (λ (x : ℤ). more x m c >>= λ e. Some (with_coefficient eqb (map turned es) v e)) (sym is)
     ∙ ap (λ (o : Option ℤ). o >>= λ e. Some (with_coefficient eqb (map turned es) v e)) gave
     ∙ ap some (sym (ap (map turned) put ∙ with_coefficient-entries es v d))
-
-pub part_stopped : (es : List (ℕ × ℤ)) (m : Factor) (c a : ℤ) (v : ℕ) (e : Stop) → a ≡ coefficient eqb (map turned es) v → Stops e (more a m c) → Stops e (plus_part eqb (map turned es) m c v)
-part_stopped es m c a v NoMemory is h = tt
-part_stopped es m c a v Undefined is h =
-    ap (λ (x : ℤ). more x m c >>= λ d. Some (with_coefficient eqb (map turned es) v d)) (sym is)
-    ∙ ap (λ (o : Option ℤ). o >>= λ d. Some (with_coefficient eqb (map turned es) v d)) h
 
 -- ---- the parts one after the other
 

@@ -1,6 +1,8 @@
 -- What a task leads to is what the tasks that stand in its place lead to.
 use Rattle.std.proofs.Common.{◌≡◌, ◌<◌, ℕ, zero, suc, List, [], ◌∷◌, length, get_or, map, ℤ, Option, Some, None, Result, Ok, Err, refl, sym, ap, subst, ◌∙◌, arith}
-use Rattle.std.specs.Prelude.{IfOk, IfSome, option_map, slice_get}
+use Rattle.std.specs.Prelude.{IfOk, IfSome, slice_get}
+use Rattle.wy_term.proofs.wy_lemmas_proofs.Lists.{first_of, rest_of}
+use Rattle.wy_term.proofs.wy_lemmas_proofs.Options.{some, some_same as some_is}
 use Rattle.wy_term.specs.Term.{Term, two, one, add, sub, neg, mul}
 use Rattle.wy_term.specs.Rewriting.{as_number}
 use Rattle.wy_lin.specs.declared.arithmetic.Factor.{Factor}
@@ -12,13 +14,12 @@ use Rattle.wy_lin.specs.declared.linear.Form.{Form}
 use Rattle.wy_lin.specs.declared.work.Task.{Task}
 use Rattle.wy_lin.specs.declared.work.Task.TheVariants as task
 use Rattle.wy_lin.specs.declared.work.Work.{Work}
-use Rattle.wy_lin.specs.Linear.{◌>>=◌, Linear, variable_form}
+use Rattle.wy_lin.specs.Linear.{◌>>=◌, Linear}
 use Rattle.wy_lin.specs.TermForm.{with, multiple, form_of, form_of_product}
 use Rattle.wy_lin.specs.Combination.{form_at}
-use Rattle.wy_lin.specs.Seen.{Gives, Stops, IsOver, IsAnswer, linear_sum, linear_form, seen, seen_sum, seen_form}
-use Rattle.wy_lin.specs.Work.{joined, scaled, run, seen_sums, outcome, outcome_after, AreSumsOver}
-use Rattle.wy_lin.proofs.OptionLemmas.{some, some_is}
-use Rattle.wy_lin.proofs.SeenLemmas.{first_of, rest_of, all_more}
+use Rattle.wy_lin.specs.Seen.{Gives, IsOver, IsAnswer, linear_sum, linear_form, seen, seen_sum, seen_form}
+use Rattle.wy_lin.specs.Work.{run, seen_sums, outcome, outcome_after, AreSumsOver}
+use Rattle.wy_lin.proofs.SeenLemmas.{all_more}
 
 -- ---- tasks in the place of a term
 
@@ -61,21 +62,7 @@ module _ (at : ℕ → Term) (ts : List Task) (fs : List (Linear Term)) where
   pub run-second_number : (s u : ℕ) (c : ℤ) → as_number (at s) ≡ None → as_number (at u) ≡ Some c → run at (task.Term s ∷ task.Multiply (Scale c) ∷ ts) fs ≡ (form_of (two mul (at s) (at u)) >>= goes_on)
   run-second_number s u c e f = one_part (Scale c) (form_of (at s)) ∙ ap (λ (o : Option (Linear Term)). o >>= goes_on) (sym (second_number (at s) (at u) (as_number (at s)) (as_number (at u)) c e f))
 
--- neither factor is a number
-pub form_of-product : (s u : Term) → as_number s ≡ None → as_number u ≡ None → form_of (two mul s u) ≡ Some (variable_form (two mul s u))
-form_of-product s u e f = by (as_number s) (as_number u) e f
-  where
-    by : (a b : Option ℤ) → a ≡ None → b ≡ None → form_of_product (two mul s u) a b (form_of s) (form_of u) ≡ Some (variable_form (two mul s u))
-    by a b is_a is_b = rw (is_a, is_b) refl
-
 -- ---- work with these tasks and forms
-
--- new work is the old work with a form in front, and the form is the one that the definition gives for a term
-pub leads_by_form : (at : ℕ → Term) (t : ℕ) (old new : Work) (s : Sum) → form_of (at t) ≡ Some (seen_sum at s) → new.tasks.items ≡ old.tasks.items → new.forms.items ≡ s ∷ old.forms.items → outcome at new ≡ outcome_after at (task.Term t) old
-leads_by_form at t old new s is tasks forms =
-    ap (λ (ts : List Task). run at ts (seen_sums at new.forms.items)) tasks
-    ∙ ap (λ (fs : List Sum). run at old.tasks.items (seen_sums at fs)) forms
-    ∙ ap (λ (o : Option (Linear Term)). o >>= λ f. run at old.tasks.items (f ∷ seen_sums at old.forms.items)) (sym is)
 
 -- new work is the old work with tasks in front, that lead to the form of a term
 pub leads_by_tasks : (at : ℕ → Term) (t : ℕ) (tree : Term) (old new : Work) (more : List Task) → at t ≡ tree → run at more (seen_sums at old.forms.items) ≡ (form_of tree >>= λ h. run at old.tasks.items (h ∷ seen_sums at old.forms.items)) → new.tasks.items ≡ more → new.forms.items ≡ old.forms.items → outcome at new ≡ outcome_after at (task.Term t) old
@@ -84,17 +71,6 @@ leads_by_tasks at t tree old new more is led tasks forms =
     ∙ ap (λ (fs : List Sum). run at more (seen_sums at fs)) forms
     ∙ led
     ∙ ap (λ (u : Term). form_of u >>= λ h. run at old.tasks.items (h ∷ seen_sums at old.forms.items)) (sym is)
-
--- forms that came of the old ones, in the place of a task
-pub leads_by_joined : (at : ℕ → Term) (m : Factor) (old : Work) (new : Work) → new.tasks.items ≡ old.tasks.items → joined m (seen_sums at old.forms.items) ≡ Some (seen_sums at new.forms.items) → outcome at new ≡ outcome_after at (task.Join m) old
-leads_by_joined at m old new tasks gave =
-    ap (λ (ts : List Task). run at ts (seen_sums at new.forms.items)) tasks
-    ∙ ap (λ (o : Option (List (Linear Term))). o >>= λ gs. run at old.tasks.items gs) (sym gave)
-
-pub leads_by_scaled : (at : ℕ → Term) (m : Factor) (old : Work) (new : Work) → new.tasks.items ≡ old.tasks.items → scaled m (seen_sums at old.forms.items) ≡ Some (seen_sums at new.forms.items) → outcome at new ≡ outcome_after at (task.Multiply m) old
-leads_by_scaled at m old new tasks gave =
-    ap (λ (ts : List Task). run at ts (seen_sums at new.forms.items)) tasks
-    ∙ ap (λ (o : Option (List (Linear Term))). o >>= λ gs. run at old.tasks.items gs) (sym gave)
 
 -- ---- the end
 
@@ -106,30 +82,7 @@ last_is at t s rest e = by (form_of (at t)) e
     by None h = absurd cc
     by (Some f) h = cc
 
--- a stop on the way is a stop of the whole
-pub stopped_is : (at : ℕ → Term) (t : ℕ) (e : Stop) → Stops e (run at (task.Term t ∷ []) []) → Stops e (form_of (at t))
-stopped_is at t NoMemory h = tt
-stopped_is at t Undefined h = by (form_of (at t)) h
-  where
-    by : (o : Option (Linear Term)) → (o >>= λ f. Some (f ∷ [])) ≡ None → o ≡ None
-    by None h = refl
-    by (Some f) h = absurd cc
-
 -- ---- what is answered
-
-pub answer_seen : (at : ℕ → Term) (r : Result Sum Stop) (o : Option Form) (given : Option (Linear Term)) → Gives (seen_sum at) r given → IsAnswer r o → option_map (seen_form at) o ≡ given
-answer_seen at (Ok s) (Some f) given gave is = ap (λ (g : Linear ℕ). some (seen at g)) is ∙ sym gave
-answer_seen at (Ok s) None given gave is = absurd is
-answer_seen at (Err Undefined) (Some f) given gave is = absurd is
-answer_seen at (Err Undefined) None given gave is = sym gave
-answer_seen at (Err NoMemory) o given gave is = absurd is
-
-pub answer_plain : (r : Result Sum Stop) (o : Option Form) (given : Option (Linear ℕ)) → Gives linear_sum r given → IsAnswer r o → option_map linear_form o ≡ given
-answer_plain (Ok s) (Some f) given gave is = ap (λ (g : Linear ℕ). some g) is ∙ sym gave
-answer_plain (Ok s) None given gave is = absurd is
-answer_plain (Err Undefined) (Some f) given gave is = absurd is
-answer_plain (Err Undefined) None given gave is = sym gave
-answer_plain (Err NoMemory) o given gave is = absurd is
 
 -- what holds of each form that the definition gives holds of the answer
 pub seen_answer : {E : Type 0} (at : ℕ → Term) (r : Result Sum Stop) (a : Result (Option Form) E) (given : Option (Linear Term)) (P : Linear Term → Type 0) → Gives (seen_sum at) r given → IfOk a (IsAnswer r) → ((h : Linear Term) → given ≡ Some h → P h) → IfOk a (λ o. IfSome o (λ f. P (seen_form at f)))

@@ -3,6 +3,8 @@ use Rattle.std.proofs.Common.{◌≡◌, ℕ, List, [], ◌∷◌, Bool, true, f
 use Rattle.std.proofs.lemmas.Int.{ints}
 use Rattle.std.proofs.Math.IntN.{*ℤ-zero, zero-*ℤ, *ℤ_comm}
 use Rattle.std.proofs.lemmas.Bool.{eqb-true}
+use Rattle.wy_term.proofs.wy_lemmas_proofs.Numbers.{zero_and as alone, one_times, distrib_right, distrib_left}
+use Rattle.wy_term.proofs.wy_lemmas_proofs.Options.{some_same as some_is}
 use Rattle.wy_term.specs.Term.{Term, Of, no_parts, part, two, number, add, sub, neg, mul}
 use Rattle.wy_term.specs.Term as term
 use Rattle.wy_term.specs.Same.{same_term}
@@ -14,9 +16,9 @@ use Rattle.wy_lin.specs.Linear.{◌>>=◌, more, Linear, nothing, number_form, v
 use Rattle.wy_lin.specs.TermForm.{with, multiple, form_of, form_of_product, difference, excess, form_of_denial, form_of_literal}
 use Rattle.wy_lin.specs.Combination.{form_at, combined_from, combined}
 use Rattle.wy_lin.specs.Worth.{worth_of_parts, worth, number_of, SaysAsMuch, total}
-use Rattle.wy_lin.proofs.OptionLemmas.{some_is, bind_some, fitted_is}
+use Rattle.wy_lin.proofs.OptionLemmas.{bind_some, fitted_is}
 use Rattle.wy_term.proofs.SameLemmas.{terms_are}
-use Rattle.wy_lin.proofs.Ring.{distrib_right, distrib_left, times_assoc, one_times, minus_times}
+use Rattle.wy_lin.proofs.Ring.{times_assoc, minus_times}
 
 -- a factor as a number
 abbrev pub factor_of : Factor → ℤ
@@ -118,9 +120,6 @@ none_before m x y e = omega (arith, ints, e)
 
 pub worth-multiple : (names : Names) (m : Factor) (f h : Linear Term) → multiple m f ≡ Some h → worth (number_of names) h ≡ factor_of m *ℤ worth (number_of names) f
 worth-multiple names m f h e = none_before (factor_of m) (worth (number_of names) f) (worth (number_of names) h) (worth-with names nothing m f h e)
-
-alone : (z : ℤ) → pos 0 +ℤ z ≡ z
-alone z = omega (arith, ints)
 
 one_part : (x : ℤ) → (pos 1 *ℤ x +ℤ pos 0) +ℤ pos 0 ≡ x
 one_part x = let one = one_times x in omega (arith, ints, one)

@@ -6,10 +6,10 @@ ghost use Rattle.wy_lin.specs.Seen.{Gives, linear_form, linear_sum};
 
 use crate::arithmetic::Factor;
 use crate::linear::Form;
-use crate::memory::NoMemory;
 use crate::stop::Stop;
 use crate::sum::{Sum, answered, number_sum, plus};
 use std::alloc::Global;
+use wy_term::NoMemory;
 
 // The form at a place, from 0.
 #[tactic(auto, using(crate::proofs::WorkLemmas::form_there, crate::proofs::WorkLemmas::form_found))]

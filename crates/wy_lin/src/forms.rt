@@ -7,12 +7,11 @@ ghost use Rattle.wy_lin.specs.Seen.{Gives, IsOver, linear_form, linear_sum, seen
 
 use crate::arithmetic::Factor;
 use crate::linear::Form;
-use crate::memory::NoMemory;
 use crate::stop::Stop;
 use crate::sum::{Sum, answered, form_from, number_sum};
 use crate::work::{sum_of_term, with_form};
 use std::alloc::Global;
-use wy_term::{Node, Terms};
+use wy_term::{NoMemory, Node, Terms};
 
 // The second form less the first, the variables of the first one first.
 fn difference(alloc: Global, terms: &Terms, f: &Form, g: &Form) -> Result<Sum, Stop>

@@ -29,10 +29,10 @@ impl<T: Drop> From<AllocFailed<T>> for Stop {
     }
 }
 
-impl From<crate::memory::NoMemory> for Stop {
+impl From<wy_term::NoMemory> for Stop {
     ghost from_gives = { λ _ e. e ≡ NoMemory };
 
-    fn from(_: crate::memory::NoMemory) -> Self {
+    fn from(_: wy_term::NoMemory) -> Self {
         Stop::NoMemory
     }
 }

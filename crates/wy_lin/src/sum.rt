@@ -6,11 +6,11 @@ ghost use Rattle.wy_lin.specs.Seen.{Gives, IsAnswer, linear_form, linear_sum, tu
 
 use crate::arithmetic::{Factor, more};
 use crate::linear::Form;
-use crate::memory::NoMemory;
 use crate::stop::Stop;
 use indexmap::IndexMap;
 use smallvec::SmallVec;
 use std::alloc::Global;
+use wy_term::NoMemory;
 
 /// A form that others are added to: the coefficients of its variables, by first appearance, and its number.
 #[derive(Drop)]

@@ -11,12 +11,11 @@ ghost use Rattle.wy_lin.specs.Work.{Leads, IsTaskOver, IsWorkOver, AreSumsOver, 
 
 use crate::arithmetic::Factor;
 use crate::linear::Form;
-use crate::memory::NoMemory;
 use crate::stop::Stop;
 use crate::sum::{Sum, form_from, number_sum, plus, variable_sum};
 use std::alloc::Global;
 use std::collections::VecDeque;
-use wy_term::{Node, Terms};
+use wy_term::{NoMemory, Node, Terms};
 
 /// What is to be done. Forms lie in a list, the last one made first.
 #[derive(Clone, Copy, Debug, PartialEq, Eq)]

@@ -2,11 +2,10 @@
 use Rattle.std.proofs.Common.{◌≡◌, ◌<◌, ◌≤◌, ◌+◌, ◌*◌, ◌/◌, ◌%◌, ℕ, true, false, ◌==◌, List, length, take, drop, sym, ap, ◌∙◌, arith}
 use Rattle.std.proofs.lemmas.List.{take-append-drop, take_more, get_or-take, get_or-drop, length-take-le, length-drop}
 use Rattle.std.proofs.lemmas.Nat.{div-mul-add, mod-mul-add}
+use Rattle.wy_lemmas.proofs.Choices.{both_parts as and_both, or_cases, same_of, false_true as never, either}
 use Rattle.wy_live.specs.declared.words.Word.{Word}
 use Rattle.wy_live.specs.Apart.{IsNext, IsLeast}
 use Rattle.wy_live.specs.Words.{is_set, in_word, in_words, no_word, word_at, place_at, bits_at, InOrder, BeginsAt}
-use Rattle.wy_live.proofs.SetLemmas.{either, never}
-use Rattle.wy_live.proofs.Truth.{or_cases, and_both, same_of}
 use Rattle.wy_live.proofs.MergeLemmas.{in_drop}
 use Rattle.wy_live.proofs.WordLemmas.{in_append, in_push, none_there, in_at}
 

@@ -4,8 +4,8 @@ use Rattle.std.specs.Int.{bit_at, bit_not, trailing_zeros}
 use Rattle.std.proofs.lemmas.Nat.{shr-shr, shr_le, and_le_l}
 use Rattle.std.proofs.lemmas.Nat.Bits.{bit_at-zero, bit_at_and, bit_at_or, bit_at_not, bit_at_set_same, bit_at_set_other, bit_at_clear_same, bit_at_clear_other, bit_at-lt, bit_at_above, bit_at-trailing_zeros, same_from_bits}
 use Rattle.std.proofs.lemmas.Bool.{cases_lt}
+use Rattle.wy_lemmas.proofs.Choices.{false_true as never, either, at_end as is_apart, by_same}
 use Rattle.wy_live.specs.Words.{is_set}
-use Rattle.wy_live.proofs.SetLemmas.{either, never, by_same}
 
 or_bits : (a b : ℕ) → a < 2 → b < 2 → (max a b == 1) ≡ ((a == 1) || (b == 1))
 or_bits zero zero h k = refl
@@ -80,11 +80,6 @@ not_apart : (a b : Bool) → (a && not b) ≡ false → a ≡ true → b ≡ tru
 not_apart a true e h = refl
 not_apart true false e h = never (sym e)
 not_apart false false e h = never h
-
-is_apart : (a b : Bool) → (a && not b) ≡ true → (a ≡ true) × (b ≡ false)
-is_apart true true e = never e
-is_apart true false e = (refl, refl)
-is_apart false b e = never e
 
 kept_below : (one other least n : ℕ) → other < 2 ^ 64 → ((i : ℕ) → i < n → is_set (apart one other least) i ≡ false) → (i : ℕ) → least ≤ i → i < least + n → i < 64 → is_set one i ≡ true → is_set other i ≡ true
 kept_below one other least n h f i l r b =

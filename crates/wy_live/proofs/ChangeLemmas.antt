@@ -2,10 +2,10 @@
 use Rattle.std.proofs.Common.{◌≡◌, ◌≢◌, ◌<◌, ◌/◌, ◌%◌, ℕ, zero, suc, false, not, ◌&&◌, ◌||◌, ◌==◌, List, [], ◌∷◌, length, set, take, drop, refl, sym, ap, ◌∙◌, arith}
 use Rattle.std.specs.List.{insert, remove}
 use Rattle.std.proofs.lemmas.List.{take-append-drop}
+use Rattle.wy_lemmas.proofs.Choices.{or_none as or_nothing, same_to as is_same, or_swapped as or_first, by_same}
 use Rattle.wy_live.specs.declared.words.Word.{Word}
 use Rattle.wy_live.specs.Words.{is_set, in_word, in_words, place_at, InOrder, BeginsAt, Changed}
-use Rattle.wy_live.proofs.SetLemmas.{by_same}
-use Rattle.wy_live.proofs.Truth.{is_same, is_other, or_nothing, or_first}
+use Rattle.wy_live.proofs.Truth.{is_other}
 use Rattle.wy_live.proofs.BitLemmas.{none_set}
 use Rattle.wy_live.proofs.WordLemmas.{Ascending, in_append, elsewhere, there, none_behind, first_before, tail_ascending, begun_elsewhere}
 

@@ -2,12 +2,13 @@
 use Rattle.std.proofs.Common.{◌≡◌, ◌<◌, ◌≤◌, ℕ, suc, Bool, true, false, not, ◌&&◌, ◌||◌, ◌==◌, nat_lt, cond, List, length, refl, sym, ap, ◌∙◌, arith}
 use Rattle.std.proofs.lemmas.Bool.{cases_lt}
 use Rattle.std.proofs.lemmas.List.{get_or_past}
+use Rattle.wy_lemmas.proofs.Choices.{lt_false, lt_true, false_true as never, by_truth, either}
 use Rattle.wy_live.specs.declared.words.Word.{Word}
 use Rattle.wy_live.specs.Apart.{IsNext}
 use Rattle.wy_live.specs.Lost.{is_lost, NoneLost}
 use Rattle.wy_live.specs.Sets.{Variables, has, put, with, without, longer, joined}
 use Rattle.wy_live.specs.Words.{in_words, shown, Kept}
-use Rattle.wy_live.proofs.SetLemmas.{either, never, by_truth, has-with, has-without, has-joined, length-either, lt_true, lt_false}
+use Rattle.wy_live.proofs.SetLemmas.{has-with, has-without, has-joined, length-either}
 use Rattle.wy_live.proofs.ShownLemmas.{length_shown, has_shown, shown_is, length_put_within, length_put_behind}
 
 length_put : (s : Variables) (x : ℕ) (b : Bool) → length (put s x b) ≡ longer (length s) (suc x)

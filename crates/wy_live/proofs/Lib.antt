@@ -1,7 +1,7 @@
 -- what the functions owe
 pub mod WalkLemmas
 -- sets as words of bits
-mod Truth
+pub mod Truth
 mod BitLemmas
 mod WordLemmas
 mod ChangeLemmas
@@ -10,10 +10,11 @@ mod ApartLemmas
 mod ShownLemmas
 mod KeptLemmas
 -- sets, and what is live
-mod SetLemmas
-mod UseLemmas
-mod PathLemmas
-mod LiveLemmas
+pub mod SetLemmas
+pub mod UseLemmas
+pub mod PathLemmas
+pub mod LiveLemmas
 -- the marks
 pub mod MarkLemmas
 pub mod UniqueLemmas
+pub mod live_paths_lemmas

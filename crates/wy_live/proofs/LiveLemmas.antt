@@ -1,28 +1,14 @@
 -- What is live before a statement is what some path from there on uses before it assigns it.
 use Rattle.std.proofs.Common.{◌≡◌, ◌⊎◌, inl, inr, ℕ, Bool, true, false, not, ◌&&◌, ◌||◌, ◌==◌, List, [], ◌∷◌, Option, Some, None, refl, sym, ap, ◌∙◌}
 use Rattle.wy_core.specs.CoreTree.{Expr, Step, Stmt, DeclareStmt, AssignStmt, CallStmt, ReturnStmt, AssertStmt, BreakStmt, ContinueStmt, SkipStmt, FailStmt, IfStmt, WhileStmt, Stmts, NoStmts, MoreStmts}
+use Rattle.wy_lemmas.proofs.Choices.{or_cases, or_left, false_true as never, either, or_either as or_true}
 use Rattle.wy_live.specs.Paths.{occurs, any_occurs, any_step_occurs, Used, UsedOrKept, DeclareLive, AssignLive, ReturnLive, IsLive, AreLive}
 use Rattle.wy_live.specs.Sets.{Variables, has, with, without, joined}
 use Rattle.wy_live.specs.Walks.{before, before_all, before_steps, declare_live, assign_live, return_live, alone, live, live_all}
 use Rattle.wy_live.specs.declared.walk.Ends.{Ends}
-use Rattle.wy_live.proofs.SetLemmas.{either, never, has-with, has-without, has-joined}
+use Rattle.wy_live.proofs.SetLemmas.{has-with, has-without, has-joined}
 use Rattle.wy_live.proofs.UseLemmas.{has-before, has-before_all, has-before_steps}
 use Rattle.wy_live.proofs.PathLemmas.{live_more, lives_more, one_turn}
-
-or_left : (a b : Bool) → a ≡ true → (a || b) ≡ true
-or_left true b e = refl
-or_left false b e = never e
-
-or_right : (a b : Bool) → b ≡ true → (a || b) ≡ true
-or_right true b e = refl
-or_right false b e = e
-
-pub or_cases : (a b : Bool) → (a || b) ≡ true → (a ≡ true) ⊎ (b ≡ true)
-or_cases true b e = inl refl
-or_cases false b e = inr e
-
-pub or_true : (a b : Bool) → (a ≡ true) ⊎ (b ≡ true) → (a || b) ≡ true
-or_true a b e = either (or_left a b) (or_right a b) e
 
 pub and_not : (a b : Bool) → (not a && b) ≡ true → (a ≡ false) × (b ≡ true)
 and_not true b e = never e

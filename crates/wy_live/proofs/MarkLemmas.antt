@@ -2,16 +2,17 @@
 use Rattle.std.proofs.Common.{◌≡◌, ◌⊎◌, inl, inr, ℕ, Bool, true, false, not, ◌&&◌, ◌||◌, ◌==◌, List, [], ◌∷◌, Option, Some, None, refl, sym, ap, ◌∙◌, subst}
 use Rattle.wy_core.specs.CoreTree as tree
 use Rattle.wy_core.specs.CoreTree.{Expr, NullExpr, BoolExpr, IntExpr, VarExpr, CallExpr, NegExpr, NotExpr, LenExpr, BinaryExpr, IsExpr, IndexExpr, FieldExpr, ListExpr, RepeatExpr, RecordExpr, QuantExpr, Exprs, NoExprs, MoreExprs, Fields, NoFields, MoreFields, Step, IndexStep, FieldStep, Stmt, DeclareStmt, AssignStmt, CallStmt, ReturnStmt, AssertStmt, BreakStmt, ContinueStmt, SkipStmt, FailStmt, IfStmt, WhileStmt, Stmts, NoStmts, MoreStmts, Decl, AliasDecl, RoutineDecl, Core}
+use Rattle.wy_lemmas.proofs.Choices.{or_cases, false_true as never, either, or_either as or_true}
 use Rattle.wy_live.specs.Paths.{occurs, any_occurs, any_field_occurs, any_step_occurs, IsLive, AreLive}
 use Rattle.wy_live.specs.LastUses.{Later, then_later, assigned_later, updated_later, turn_later, ExprMarks, ExprsMarks, FieldsMarks, StepMarks, StepsMarks, DeclareMarks, AssignMarks, ReturnMarks, nothing_later, if_later, head_later, test_later, StmtMarks, StmtsMarks, DeclMarks, DeclsMarks, AreLast}
 use Rattle.wy_live.specs.Sets.{Variables, has, with, without, joined}
 use Rattle.wy_live.specs.Walks.{before, before_all, before_fields, before_step, before_steps, turned, with_live, marked, marked_all, marked_fields, marked_step, marked_steps, body_marked, live, live_all, head_live, declare_live, assign_live, return_live, declare_walked, assign_walked, return_walked, around, forked, entered, walked, walked_all, nothing, ended, decl_walked, decls_walked, last_of}
 use Rattle.wy_live.specs.declared.walk.Ends.{Ends}
 use Rattle.wy_live.specs.declared.walk.Walk.{Walk}
-use Rattle.wy_live.proofs.SetLemmas.{either, never, has-with, has-without, has-joined}
+use Rattle.wy_live.proofs.SetLemmas.{has-with, has-without, has-joined}
 use Rattle.wy_live.proofs.UseLemmas.{has-before, has-before_all, has-before_fields, has-before_steps, has-turned}
 use Rattle.wy_live.proofs.PathLemmas.{live_more, lives_more}
-use Rattle.wy_live.proofs.LiveLemmas.{In, or_cases, or_true, and_not, not_and, in_used, used_in, of_path, to_path, of_paths, to_paths}
+use Rattle.wy_live.proofs.LiveLemmas.{In, and_not, not_and, in_used, used_in, of_path, to_path, of_paths, to_paths}
 
 -- ---- the walk has what is live
 

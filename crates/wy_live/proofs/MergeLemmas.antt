@@ -1,13 +1,12 @@
 -- One word after the other of two lists.
-use Rattle.std.proofs.Common.{◌≡◌, ◌⊎◌, inl, inr, ◌<◌, ◌≤◌, ◌+◌, ◌/◌, ◌%◌, ℕ, Bool, true, false, ◌&&◌, ◌||◌, ◌==◌, List, [], ◌∷◌, ◌++◌, length, drop, length-append, refl, sym, ap, ◌∙◌, subst, arith}
+use Rattle.std.proofs.Common.{◌≡◌, ◌⊎◌, inl, inr, ◌<◌, ◌≤◌, ◌+◌, ℕ, ◌||◌, List, [], ◌∷◌, ◌++◌, length, drop, length-append, sym, ap, ◌∙◌, subst, arith}
 use Rattle.std.proofs.lemmas.Bool.{cases_lt}
 use Rattle.std.proofs.lemmas.List.{drop_more, get_or_append_left, get_or_push}
+use Rattle.wy_lemmas.proofs.Choices.{or_regrouped as or_assoc, or_swapped as or_first, either}
 use Rattle.wy_live.specs.declared.merges.Front.{Front}
 use Rattle.wy_live.specs.declared.words.Word.{Word}
-use Rattle.wy_live.specs.Words.{is_set, in_word, in_words, no_word, word_at, place_at, bits_at, InOrder}
+use Rattle.wy_live.specs.Words.{in_word, in_words, no_word, word_at, place_at, InOrder}
 use Rattle.wy_live.specs.Merges.{IsFront}
-use Rattle.wy_live.proofs.SetLemmas.{either}
-use Rattle.wy_live.proofs.Truth.{or_assoc, or_first, or_pairs}
 use Rattle.wy_live.proofs.WordLemmas.{in_push}
 
 -- the word at i, and what is behind it
@@ -64,36 +63,6 @@ front_other one other i j f order h k below w_is i_is j_is =
           ∙ or_first (in_word (word_at other j) x) (in_words (drop i one) x) (in_words (drop (j + 1) other) x)
           ∙ ap (λ b. in_words (drop i one) x || b) (sym (in_drop other j x h));
     }
-
--- a word of each, at one place
-both_words : (a b : Word) (bits x : ℕ) → a.place ≡ b.place → ((k : ℕ) → is_set bits k ≡ (is_set a.bits k || is_set b.bits k)) → in_word (record { place = a.place; bits = bits }) x ≡ (in_word a x || in_word b x)
-both_words a b bits x e set =
-    ap (λ t. (a.place == x / 64) && t) (set (x % 64))
-    ∙ and_spread (a.place == x / 64) (is_set a.bits (x % 64)) (is_set b.bits (x % 64))
-    ∙ ap (λ p. in_word a x || (p == x / 64 && is_set b.bits (x % 64))) e
-  where
-    and_spread : (p q r : Bool) → (p && (q || r)) ≡ ((p && q) || (p && r))
-    and_spread true q r = refl
-    and_spread false q r = refl
-
-pub front_both : (one other : List Word) (i j bits : ℕ) → InOrder one → InOrder other → i < length one → j < length other → place_at one i ≡ place_at other j → 0 < bits
-    → ((k : ℕ) → is_set bits k ≡ (is_set (bits_at one i) k || is_set (bits_at other j) k)) → IsFront one other i j (record { word = record { place = place_at one i; bits = bits }; one = i + 1; other = j + 1 })
-front_both one other i j bits up down h k e f set = record {
-  one_within = omega (arith, h);
-  other_within = omega (arith, k);
-  moves = omega arith;
-  one_on = omega arith;
-  other_on = omega arith;
-  filled = f;
-  is_one = inl (h, refl);
-  before_one = λ m l r. up.ascending i m (omega (arith, l)) r;
-  before_other = λ m l r. let d = down.ascending j m (omega (arith, l)) r in omega (arith, d, e);
-  value = λ x.
-      ap (λ b. b || (in_words (drop (i + 1) one) x || in_words (drop (j + 1) other) x)) (both_words (word_at one i) (word_at other j) bits x e set)
-      ∙ or_pairs (in_word (word_at one i) x) (in_word (word_at other j) x) (in_words (drop (i + 1) one) x) (in_words (drop (j + 1) other) x)
-      ∙ ap (λ b. b || (in_word (word_at other j) x || in_words (drop (j + 1) other) x)) (sym (in_drop one i x h))
-      ∙ ap (λ b. in_words (drop i one) x || b) (sym (in_drop other j x k));
-}
 
 -- ---- the words made so far
 

@@ -1,8 +1,8 @@
 -- Paths through statements: what follows may be replaced and taken out, and one turn of a loop is enough.
 use Rattle.std.proofs.Common.{◌⊎◌, inl, inr, ℕ, zero, suc, Bool, ◌||◌, ◌==◌, List, [], ◌∷◌, Option, Some, None}
 use Rattle.wy_core.specs.CoreTree.{Expr, Step, Stmt, DeclareStmt, AssignStmt, CallStmt, ReturnStmt, AssertStmt, BreakStmt, ContinueStmt, SkipStmt, FailStmt, IfStmt, WhileStmt, Stmts, NoStmts, MoreStmts}
+use Rattle.wy_lemmas.proofs.Choices.{either}
 use Rattle.wy_live.specs.Paths.{occurs, any_occurs, any_step_occurs, Used, UsedOrKept, DeclareLive, AssignLive, Turns, IsLive, AreLive}
-use Rattle.wy_live.proofs.SetLemmas.{either}
 
 -- what a body says of its end, of each `continue`, and of what follows the loop
 abbrev pub Body : Type 1

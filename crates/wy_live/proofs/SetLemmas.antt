@@ -1,24 +1,8 @@
 -- What a set has behind each change.
-use Rattle.std.proofs.Common.{◌≡◌, ◌≢◌, ◌⊎◌, inl, inr, ◌<◌, ◌≤◌, ℕ, zero, suc, Bool, true, false, not, ◌&&◌, ◌||◌, ◌==◌, nat_lt, cond, List, [], ◌∷◌, ◌++◌, length, get_or, refl, sym, ap, ◌∙◌, subst, arith, length-append}
-use Rattle.std.proofs.lemmas.Bool.Decides.{eqb_tells, nat_tests}
+use Rattle.std.proofs.Common.{◌≡◌, ◌<◌, ◌≤◌, ℕ, zero, suc, Bool, true, false, not, ◌&&◌, ◌||◌, ◌==◌, nat_lt, cond, List, [], ◌∷◌, ◌++◌, length, get_or, refl, sym, ap, ◌∙◌, subst, arith, length-append}
 use Rattle.std.proofs.lemmas.List.{get_or_append_left, get_or_push, get_or_past}
+use Rattle.wy_lemmas.proofs.Choices.{at_or_past, lt_false, lt_true, by_truth, either, by_same}
 use Rattle.wy_live.specs.Sets.{Variables, has, put, with, without, either_bits, longer, joined}
-
-pub either : {A B C : Type 0} → (A → C) → (B → C) → A ⊎ B → C
-either f g (inl a) = f a
-either f g (inr b) = g b
-
-pub never : {A : Type 0} → false ≡ true → A
-never e = absurd (cc)
-
--- cases by whether two variables are one
-pub by_same : (x y : ℕ) (P : Bool → Type 0) → (x ≡ y → P true) → (x ≢ y → P false) → P (x == y)
-by_same x y P f g = either (λ (t : ((x == y) ≡ true) × (x ≡ y)). subst P (sym t.0) (f t.1)) (λ (t : ((x == y) ≡ false) × (x ≢ y)). subst P (sym t.0) (g t.1)) (eqb_tells x y)
-
--- cases by a truth value
-pub by_truth : (b : Bool) (P : Bool → Type 0) → (b ≡ true → P true) → (b ≡ false → P false) → P b
-by_truth true P f g = f refl
-by_truth false P f g = g refl
 
 put_same : (bits : List Bool) (x : ℕ) (b : Bool) → get_or (put bits x b) x false ≡ b
 put_same [] zero b = refl
@@ -51,9 +35,6 @@ has-without s x y = by_truth (has s y) (λ t. has s y ≡ t → has (cond t (put
     (λ _ _. has-put_false s x y)
     (λ _ h. by_same x y (λ t. has s x ≡ (not t && has s x)) (λ e. ap (λ z. has s z) e ∙ h) (λ _. refl)) refl
 
-pub has-nothing : (x : ℕ) → has [] x ≡ false
-has-nothing x = refl
-
 -- ---- joins
 
 pub length-either : (s t : Variables) (n : ℕ) → length (either_bits s t n) ≡ n
@@ -67,20 +48,11 @@ either_at s t (suc n) x h = by_same x n (λ b. (x == n) ≡ b → get_or (either
     (λ ne _. let l = length-either s t n in let lt : x < length (either_bits s t n) = omega arith in
     get_or_append_left (either_bits s t n) ((has s n || has t n) ∷ []) false x lt ∙ either_at s t n x (omega arith)) refl
 
-pub lt_true : (a b : ℕ) → nat_lt a b ≡ true → a < b
-lt_true a b h = first_of (grind (arith, nat_tests), search arith)
-
-pub lt_false : (a b : ℕ) → nat_lt a b ≡ false → b ≤ a
-lt_false a b h = first_of (grind (arith, nat_tests), search arith)
-
 longer_left : (n m : ℕ) → n ≤ longer n m
 longer_left n m = by_truth (nat_lt n m) (λ t. nat_lt n m ≡ t → n ≤ cond t m n) (λ _ h. let lt = lt_true n m h in omega arith) (λ _ _. omega arith) refl
 
 longer_right : (n m : ℕ) → m ≤ longer n m
 longer_right n m = by_truth (nat_lt n m) (λ t. nat_lt n m ≡ t → m ≤ cond t m n) (λ _ _. omega arith) (λ _ h. lt_false n m h) refl
-
-at_or_past : (x n : ℕ) → (x < n) ⊎ (n ≤ x)
-at_or_past x n = by_truth (nat_lt x n) (λ t. nat_lt x n ≡ t → (x < n) ⊎ (n ≤ x)) (λ _ e. inl (lt_true x n e)) (λ _ e. inr (lt_false x n e)) refl
 
 pub has-joined : (s t : Variables) (x : ℕ) → has (joined s t) x ≡ (has s x || has t x)
 has-joined s t x =

@@ -2,10 +2,10 @@
 use Rattle.std.proofs.Common.{◌≡◌, ◌<◌, ◌≤◌, ℕ, zero, suc, Bool, false, List, [], ◌∷◌, ◌++◌, length, get_or, refl, sym, ap, ◌∙◌, subst, arith, length-append}
 use Rattle.std.proofs.lemmas.Bool.{cases_lt}
 use Rattle.std.proofs.lemmas.List.{get_or_append_left, get_or_push, get_or_past, ext_get_or}
+use Rattle.wy_lemmas.proofs.Choices.{either}
 use Rattle.wy_live.specs.declared.words.Word.{Word}
 use Rattle.wy_live.specs.Sets.{Variables, has, put}
 use Rattle.wy_live.specs.Words.{in_words, shown, Within}
-use Rattle.wy_live.proofs.SetLemmas.{either}
 
 pub length_shown : (ws : List Word) (n : ℕ) → length (shown ws n) ≡ n
 length_shown ws zero = refl

@@ -1,16 +1,10 @@
 -- A program has one list of marks.
-use Rattle.std.proofs.Common.{◌≡◌, ℕ, Bool, true, false, List, [], ◌∷◌, Option, Some, None, refl, sym, ap, ◌∙◌}
+use Rattle.std.proofs.Common.{◌≡◌, ℕ, Bool, List, [], ◌∷◌, Option, Some, None, refl, sym, ap, ◌∙◌}
 use Rattle.wy_core.specs.CoreTree as tree
 use Rattle.wy_core.specs.CoreTree.{Expr, NullExpr, BoolExpr, IntExpr, VarExpr, CallExpr, NegExpr, NotExpr, LenExpr, BinaryExpr, IsExpr, IndexExpr, FieldExpr, ListExpr, RepeatExpr, RecordExpr, QuantExpr, Exprs, NoExprs, MoreExprs, Fields, NoFields, MoreFields, Step, IndexStep, FieldStep, Stmt, DeclareStmt, AssignStmt, CallStmt, ReturnStmt, AssertStmt, BreakStmt, ContinueStmt, SkipStmt, FailStmt, IfStmt, WhileStmt, Stmts, NoStmts, MoreStmts, Decl, AliasDecl, RoutineDecl, Core}
+use Rattle.wy_lemmas.proofs.Choices.{same_test as one_truth}
 use Rattle.wy_live.specs.Paths.{occurs, any_occurs, any_field_occurs, any_step_occurs, AreLive}
 use Rattle.wy_live.specs.LastUses.{Later, then_later, assigned_later, updated_later, turn_later, unused, clauses_unused, ExprMarks, ExprsMarks, FieldsMarks, StepMarks, StepsMarks, DeclareMarks, AssignMarks, ReturnMarks, nothing_later, if_later, head_later, test_later, StmtMarks, StmtsMarks, DeclMarks, DeclsMarks, AreLast}
-use Rattle.wy_live.proofs.SetLemmas.{never}
-
-one_truth : (b c : Bool) → (b ≡ true → c ≡ true) → (c ≡ true → b ≡ true) → b ≡ c
-one_truth true true f g = refl
-one_truth true false f g = never (f refl)
-one_truth false true f g = never (g refl)
-one_truth false false f g = refl
 
 one_front : (b c : Bool) (ms ns r q : List Bool) → b ≡ c → r ≡ q → ms ≡ b ∷ r → ns ≡ c ∷ q → ms ≡ ns
 one_front b c ms ns r q e f m n = m ∙ (ap (λ z. z ∷ r) e ∙ (ap (λ z. c ∷ z) f ∙ sym n))

@@ -1,14 +1,11 @@
 -- What is live before an expression: what stands in it, and what is live behind it.
 use Rattle.std.proofs.Common.{◌≡◌, ℕ, Bool, true, false, not, ◌&&◌, ◌||◌, ◌==◌, List, [], ◌∷◌, refl, sym, ap, ◌∙◌}
 use Rattle.wy_core.specs.CoreTree.{Expr, NullExpr, BoolExpr, IntExpr, VarExpr, CallExpr, NegExpr, NotExpr, LenExpr, BinaryExpr, IsExpr, IndexExpr, FieldExpr, ListExpr, RepeatExpr, RecordExpr, QuantExpr, Exprs, NoExprs, MoreExprs, Fields, NoFields, MoreFields, Step, IndexStep, FieldStep}
+use Rattle.wy_lemmas.proofs.Choices.{or_true as or_true_right, or_regrouped as or_assoc, by_truth, by_same}
 use Rattle.wy_live.specs.Paths.{occurs, any_occurs, any_field_occurs, step_occurs, any_step_occurs}
 use Rattle.wy_live.specs.Sets.{Variables, has, restored}
 use Rattle.wy_live.specs.Walks.{before, before_all, before_fields, before_step, before_steps, turned}
-use Rattle.wy_live.proofs.SetLemmas.{by_same, by_truth, has-with, has-without}
-
-or_assoc : (a b c : Bool) → (a || (b || c)) ≡ ((a || b) || c)
-or_assoc true b c = refl
-or_assoc false b c = refl
+use Rattle.wy_live.proofs.SetLemmas.{has-with, has-without}
 
 or_assoc_two : (a b c d : Bool) → (a || (b || (c || d))) ≡ ((a || (b || c)) || d)
 or_assoc_two true b c d = refl
@@ -18,22 +15,6 @@ or_assoc_two false false c d = refl
 -- the first, where the second is known
 one_more : (a b c d : Bool) → d ≡ (b || c) → (a || d) ≡ ((a || b) || c)
 one_more a b c d h = ap (λ t. a || t) h ∙ or_assoc a b c
-
-or_true_right : (b : Bool) → (b || true) ≡ true
-or_true_right true = refl
-or_true_right false = refl
-
-or_false_right : (b : Bool) → (b || false) ≡ b
-or_false_right true = refl
-or_false_right false = refl
-
-and_false_right : (b : Bool) → (b && false) ≡ false
-and_false_right true = refl
-and_false_right false = refl
-
-spread : (a b c : Bool) → (a && (b || c)) ≡ ((a && b) || (a && c))
-spread true b c = refl
-spread false b c = refl
 
 -- behind the body of a quantifier, where the body is known
 turned_where : (s t : Variables) (x y : ℕ) (used : ℕ → Bool) → ((z : ℕ) → has t z ≡ (used z || has s z)) → has (restored (has s y) t y) x ≡ ((not (x == y) && used x) || has s x)

@@ -1,10 +1,10 @@
 -- What is in words behind each change, and their order.
 use Rattle.std.proofs.Common.{◌≡◌, ◌≢◌, ◌<◌, ◌≤◌, ◌/◌, ◌%◌, ℕ, zero, suc, false, ◌&&◌, ◌||◌, List, [], ◌∷◌, ◌++◌, length, refl, sym, ap, ◌∙◌, arith}
 use Rattle.std.proofs.lemmas.Bool.{cases_lt}
+use Rattle.wy_lemmas.proofs.Choices.{or_none as or_nothing, same_to as is_same, or_regrouped as or_assoc, either}
 use Rattle.wy_live.specs.declared.words.Word.{Word}
 use Rattle.wy_live.specs.Words.{is_set, in_word, in_words, place_at, bits_at, InOrder, BeginsAt}
-use Rattle.wy_live.proofs.SetLemmas.{either}
-use Rattle.wy_live.proofs.Truth.{is_same, is_other, or_assoc, or_nothing}
+use Rattle.wy_live.proofs.Truth.{is_other}
 use Rattle.wy_live.proofs.BitLemmas.{none_set}
 
 abbrev pub Ascending : List Word → Type 0

@@ -152,10 +152,6 @@ abbrev mutual
   StmtsMarks (MoreStmts st others) after exit again marks rest =
       (mid : List Bool) × StmtMarks st (λ x. AreLive others x (after x) (exit x) (again x)) exit again marks mid × StmtsMarks others after exit again mid rest
 
--- the clauses of a type, which a test of the type runs one behind the other
-abbrev pub any_clause_occurs : List (Expr ℕ) → ℕ → Bool
-any_clause_occurs es x = any_occurs (tree.exprs_of es) x
-
 abbrev pub DeclMarks : Decl ℕ → List Bool → List Bool → Type 0
 DeclMarks (AliasDecl a) marks rest = ExprsMarks (tree.exprs_of a.clauses) nothing_later marks rest
 DeclMarks (RoutineDecl r) marks rest =

@@ -10,3 +10,4 @@ pub mod Lost
 pub mod Words
 pub mod Merges
 pub mod Apart
+pub mod live_paths

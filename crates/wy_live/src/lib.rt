@@ -13,8 +13,8 @@
 
 mod apart;
 mod bits;
-mod fault;
 mod live;
+pub mod live_paths;
 mod merges;
 mod program;
 mod sets;
@@ -23,9 +23,9 @@ mod uses;
 mod walk;
 mod words;
 
-pub use fault::NoMemory;
 pub use live::{head_live, live_block};
 pub use program::{Uses, last_uses};
 pub use sets::{Variables, joined, next_lost};
 pub use uses::{before, before_all, before_fields, before_steps, turned};
 pub use walk::{Ends, nothing};
+pub use wy_items::NoMemory;

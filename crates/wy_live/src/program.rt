@@ -4,14 +4,13 @@ ghost use Rattle.wy_core.specs.CoreSeen.{seen_alias, seen_core, seen_decl, seen_
 ghost use Rattle.wy_live.specs.LastUses.{AreLast};
 ghost use Rattle.wy_live.specs.Walks as spec;
 
-use crate::fault::NoMemory;
 use crate::sets::Variables;
 use crate::statements::walk_block;
 use crate::uses::{mark_all, skip_clauses};
 use crate::walk::{Marks, Walk, nothing};
 use std::alloc::{AllocError, Global};
 use wy_core::{Alias, Core, Decl, Routine};
-use wy_items::Items;
+use wy_items::{Items, NoMemory};
 
 /// The marks of a program's uses.
 #[derive(Drop)]

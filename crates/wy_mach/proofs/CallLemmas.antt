@@ -4,6 +4,7 @@ use Rattle.std.specs.Prelude.{Result, Ok, Err, IfOk, OnOk, nat_eq, slice_get}
 use Rattle.std.proofs.lemmas.List.{append-nil, reverse-append}
 use Rattle.std.proofs.lemmas.Bool.Decides.{nat_tests}
 use Rattle.wy_value.specs.Datum.{Datum}
+use Rattle.wy_value.specs.Seen.{data_of}
 use Rattle.wy_value.specs.Values.{length_of}
 use Rattle.wy_heap.specs.declared.part.Part.{Part}
 use Rattle.wy_heap.specs.declared.part.Part.TheVariants as part
@@ -18,8 +19,8 @@ use Rattle.wy_heap.proofs.MeaningLemmas.{mean_all-length}
 use Rattle.wy_code.specs.declared.instructions.Instr.TheVariants as instr
 use Rattle.wy_code.specs.declared.routines.Routine.{Routine}
 use Rattle.wy_code.specs.declared.routines.Code.{Code}
-use Rattle.wy_sem.specs.Expressions.{Store, slot, put, data_of}
-use Rattle.wy_step.specs.Step.{Frame, Caller, State, Effect, Calls, Returns, Stuck, Runs, stepped, entered, returned, moved_all, holding, empties}
+use Rattle.wy_sem.specs.Expressions.{Store, slot, put}
+use Rattle.wy_code_spec.specs.step.Step.{Frame, Caller, State, Effect, Calls, Returns, Stuck, Runs, stepped, entered, returned, moved_all, holding, empties}
 use Rattle.wy_mach.specs.Showing.{Shows}
 use Rattle.wy_mach.specs.Taking.{taken, emptied, AreWithin, nulls}
 use Rattle.wy_mach.proofs.EffectLemmas.{by_there}
@@ -44,10 +45,6 @@ call_by P code old d f rs fr callers output shows fails goes = elim (took (map_o
   | inl none ↦ subst (λ (e : Effect). P (stepped code fr callers output e)) (sym none) fails
   | inr t ↦ subst (λ (e : Effect). P (stepped code fr callers output e)) (sym t.effect_is) (goes t.data_in t.rest t.mean t.shows)
 ]
-
--- the caller of a frame that calls
-caller_of : Frame → Store → ℕ → Caller
-caller_of fr rest d = record { frame = record fr { at = fr.at + 1; registers = rest }; target = d }
 
 -- a routine that isn't there
 pub no_routine : (code : Code) (old : Machine) (d f : ℕ) (rs : List ℕ) → slice_get code.routines f ≡ None → HasNoNext (next_by code (instr.Call d f rs)) old

@@ -5,11 +5,12 @@ use Rattle.wy_heap.specs.declared.part.Part.{Part}
 use Rattle.wy_heap.specs.Nodes.{Map}
 use Rattle.wy_heap.specs.Meaning.{MeanAll}
 use Rattle.wy_heap.proofs.MeaningLemmas.{mean_all-length}
-use Rattle.wy_sem.specs.Expressions.{Store, data_of}
-use Rattle.wy_step.specs.Step.{holding, empties}
+use Rattle.wy_sem.specs.Expressions.{Store}
+use Rattle.wy_code_spec.specs.step.Step.{holding, empties}
 use Rattle.wy_mach.specs.Showing.{Shows}
 use Rattle.wy_mach.specs.Taking.{nulls}
 use Rattle.wy_mach.proofs.RecordLemmas.{length-data_of}
+use Rattle.wy_value.specs.Seen.{data_of}
 
 holding_shows : (m : Map) (vs : List Datum) (ps : List Part) → MeanAll m (data_of vs) ps → Shows m (holding vs) ps
 holding_shows m [] ps mean = mean

@@ -13,7 +13,7 @@ use Rattle.wy_heap.proofs.CountLemmas.{held-append, held-set}
 use Rattle.wy_heap.proofs.RowLemmas.{restood}
 use Rattle.wy_sem.specs.Operations.{same}
 use Rattle.wy_sem.specs.Expressions.{Store, slot}
-use Rattle.wy_step.specs.Step.{Effect, Fails, there, gives}
+use Rattle.wy_code_spec.specs.step.Step.{Effect, Fails, there, gives}
 use Rattle.wy_mach.specs.Showing.{Leaves, WentOn, AreRegisters, Puts}
 use Rattle.wy_mach.specs.Operands.{TellsSame, ComparesNone}
 use Rattle.wy_mach.specs.declared.stop.Stop.TheVariants.{Stuck}

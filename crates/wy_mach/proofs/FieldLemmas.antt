@@ -1,6 +1,7 @@
 -- Fields and items, as the heap finds them and as the step does.
 use Rattle.std.proofs.Common.{◌≡◌, ℕ, zero, suc, ◌+◌, ◌<◌, List, length, Bool, true, false, Option, Some, refl, ◌∙◌, ap, arith}
 use Rattle.std.specs.Prelude.{bytes_eq, if◌then◌else◌}
+use Rattle.wy_lemmas.proofs.Numbers.{one_more}
 use Rattle.wy_value.specs.Datum.{Datum, Data, no_items, item, Fields, no_fields, field}
 use Rattle.wy_value.specs.Values.{names_of}
 use Rattle.wy_heap.specs.Meaning.{data_in}
@@ -11,9 +12,6 @@ pub nth-item_at : (ds : Data) (i : ℕ) → nth ds i ≡ item_at ds i
 nth-item_at no_items i = refl
 nth-item_at (item d ds) zero = refl
 nth-item_at (item d ds) (suc i) = nth-item_at ds i
-
-one_more : (n : ℕ) → n + 1 ≡ suc n
-one_more n = omega arith
 
 some_datum : (d e : Datum) → Some d ≡ Some e → d ≡ e
 some_datum d e is = cc

@@ -12,8 +12,8 @@ use Rattle.wy_heap.specs.Meaning.{Means, MeanAll}
 use Rattle.wy_heap.specs.Making.{repeated}
 use Rattle.wy_heap.specs.Standing.{Stands}
 use Rattle.wy_sem.specs.Operations.{copies, nat_of, longest}
-use Rattle.wy_sem.specs.Expressions.{Store, slot, put, data_of}
-use Rattle.wy_step.specs.Step.{Effect, Fails, there, as_number, moved, where_so, gives}
+use Rattle.wy_sem.specs.Expressions.{Store, slot, put}
+use Rattle.wy_code_spec.specs.step.Step.{Effect, Fails, there, as_number, moved, where_so, gives}
 use Rattle.wy_mach.specs.Showing.{Leaves, WentOn, HasNone, Turns, AreRegisters}
 use Rattle.wy_mach.specs.Operands.{number_in, Reads}
 use Rattle.wy_mach.specs.Taking.{AreTaken, TakenTurns, GivesMade}
@@ -23,6 +23,7 @@ use Rattle.wy_mach.proofs.RegisterLemmas.{shows_slot, slot_beyond, taken_out}
 use Rattle.wy_mach.proofs.MoveLemmas.{rest_shows}
 use Rattle.wy_mach.proofs.OperandLemmas.{number-there}
 use Rattle.wy_mach.proofs.NumberLemmas.{there_none, there_some}
+use Rattle.wy_value.specs.Seen.{data_of}
 
 repeated-copies : (n : ℕ) (d : Datum) → repeated n d ≡ copies n d
 repeated-copies zero d = refl

@@ -1,7 +1,8 @@
 -- An item of what a register holds comes into another one.
-use Rattle.std.proofs.Common.{◌≡◌, ℕ, zero, suc, ◌<◌, ◌≤◌, List, [], ◌∷◌, length, get_or, set, Bool, true, false, Option, Some, None, ℤ, pos, negsuc, refl, sym, ◌∙◌, ap, subst, arith}
+use Rattle.std.proofs.Common.{◌≡◌, ℕ, ◌<◌, ◌≤◌, List, [], ◌∷◌, length, get_or, set, Bool, true, false, Option, Some, None, ℤ, pos, negsuc, refl, sym, ◌∙◌, ap, subst, arith}
 use Rattle.std.proofs.lemmas.Bool.Decides.{nat_tests}
-use Rattle.wy_value.specs.Datum.{Datum, Null, Truth, Whole, Array, Record, Data, no_items, item}
+use Rattle.wy_mach.proofs.FieldLemmas.{nth-item_at}
+use Rattle.wy_value.specs.Datum.{Datum, Null, Truth, Whole, Array, Record, Data}
 use Rattle.wy_value.specs.Values.{length_of}
 use Rattle.wy_heap.specs.declared.part.Part.{Part}
 use Rattle.wy_heap.specs.declared.part.Part.TheVariants as part
@@ -9,12 +10,12 @@ use Rattle.wy_heap.specs.declared.heap.Heap.{Heap}
 use Rattle.wy_heap.specs.Nodes.{map_of}
 use Rattle.wy_heap.specs.Meaning.{Means}
 use Rattle.wy_heap.specs.Slots as slots
-use Rattle.wy_heap.specs.Slots.{nth, HasStep, child}
+use Rattle.wy_heap.specs.Slots.{HasStep, child}
 use Rattle.wy_heap.specs.Standing.{Stands}
 use Rattle.wy_heap.proofs.RowLemmas.{first_meant}
 use Rattle.wy_sem.specs.Operations.{item_at, nat_of, is_index}
 use Rattle.wy_sem.specs.Expressions.{Store, slot}
-use Rattle.wy_step.specs.Step.{Effect, Fails, there, as_items, as_number, where_so, gives}
+use Rattle.wy_code_spec.specs.step.Step.{Effect, Fails, there, as_items, as_number, where_so, gives}
 use Rattle.wy_mach.specs.declared.stop.Stop.{Stop}
 use Rattle.wy_mach.specs.declared.stop.Stop.TheVariants.{Stuck, NoMemory}
 use Rattle.wy_mach.specs.Showing.{Leaves, WentOn, HasNone, IsStop, AreRegisters, Puts}
@@ -55,12 +56,7 @@ item_somewhere h p i of there_is = let long = item_length there_is.0 i None ther
 
 -- ---- the effect of `Get`
 
-pub nth-item_at : (ds : Data) (i : ℕ) → nth ds i ≡ item_at ds i
-nth-item_at no_items i = refl
-nth-item_at (item d ds) zero = refl
-nth-item_at (item d ds) (suc i) = nth-item_at ds i
-
-by_where : (P : Effect → Type 0) (b : Bool) (next : Effect) → P Fails → (b ≡ true → P next) → P (where_so b next)
+pub by_where : (P : Effect → Type 0) (b : Bool) (next : Effect) → P Fails → (b ≡ true → P next) → P (where_so b next)
 by_where P true next fails goes = goes refl
 by_where P false next fails goes = fails
 

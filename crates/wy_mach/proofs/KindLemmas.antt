@@ -1,9 +1,11 @@
 -- The instruction `Kind`.
-use Rattle.std.proofs.Common.{◌≡◌, ℕ, zero, suc, ◌<◌, ◌≤◌, List, [], ◌∷◌, length, get_or, set, slice_get, Bool, true, false, ◌&&◌, cond, nat_eq, nat_lt, Option, Some, None, refl, sym, ◌∙◌, ap, subst, arith}
+use Rattle.std.proofs.Common.{◌≡◌, ℕ, zero, suc, ◌<◌, ◌≤◌, List, [], ◌∷◌, length, get_or, set, slice_get, Bool, true, false, cond, nat_eq, nat_lt, Option, Some, None, refl, sym, ◌∙◌, ap, subst, arith}
 use Rattle.std.specs.Prelude.{bytes_eq}
 use Rattle.std.proofs.lemmas.Bool.Decides.{nat_tests}
 use Rattle.std.proofs.lemmas.Option.{slice_get_within, get_or_from_slice_get}
 use Rattle.std.proofs.lemmas.Slice.Eq.{bytes_eq-Decides}
+use Rattle.wy_lemmas.proofs.Choices.{both_parts as both, same_test as test_of, both_true as joined_true}
+use Rattle.wy_lemmas.proofs.Lists.{same_bytes as one_list}
 use Rattle.wy_value.specs.Datum.{Datum, Null, Truth, Whole, Array, Record, Fields, no_fields, field}
 use Rattle.wy_value.specs.Values.{names_of}
 use Rattle.wy_value.specs.Shapes.{AreApart, IsShapes, named}
@@ -21,7 +23,7 @@ use Rattle.wy_heap.proofs.CompareLemmas.{numbers_in}
 use Rattle.wy_code.specs.declared.instructions.Kind as asked
 use Rattle.wy_code.specs.declared.instructions.Kind.TheVariants as ask
 use Rattle.wy_sem.specs.Expressions.{slot}
-use Rattle.wy_step.specs.Step.{Effect, Fails, there, gives, kind_answer, names_in, has_names, is_record}
+use Rattle.wy_code_spec.specs.step.Step.{Effect, Fails, there, gives, kind_answer, names_in, has_names, is_record}
 use Rattle.wy_mach.specs.Showing.{Leaves, WentOn, HasNone, AreRegisters, Puts}
 use Rattle.wy_mach.specs.Kinds.{is_null_kind, is_bool_kind, is_int_kind, is_array_kind, is_shape_kind, kind_told}
 use Rattle.wy_mach.proofs.EffectLemmas.{by_there}
@@ -30,10 +32,6 @@ use Rattle.wy_mach.proofs.NumberLemmas.{scalar_leaves}
 use Rattle.wy_mach.proofs.RecordLemmas.{names_same}
 
 -- ---- names
-
-both : (a b : Bool) → (a && b) ≡ true → (a ≡ true) × (b ≡ true)
-both true b h = (refl, h)
-both false b h = absurd (cc)
 
 has_all : (fs : Fields) (names : List (List ℕ)) → has_names fs names ≡ true → names_of fs ≡ names
 has_all no_fields [] h = refl
@@ -44,10 +42,6 @@ has_all (field n d fs) (m ∷ ms) h =
     let first : n ≡ m = (bytes_eq-Decides n m).0 two.0 in
     let rest : names_of fs ≡ ms = has_all fs ms two.1 in
     cc
-
-joined_true : (a b : Bool) → a ≡ true → b ≡ true → (a && b) ≡ true
-joined_true true b h k = k
-joined_true false b h k = absurd (cc)
 
 has_own : (fs : Fields) → has_names fs (names_of fs) ≡ true
 has_own no_fields = refl
@@ -70,14 +64,6 @@ one_shape t n k xs ys table first second same =
     let lists : xs ≡ ys = named_once t.names xs ys table.names_apart (numbers_in t n xs table first) (numbers_in t k ys table second) same in
     let here : get_or t.lists n [] ≡ get_or t.lists k [] = get_or_from_slice_get t.lists n xs [] first ∙ lists ∙ sym (get_or_from_slice_get t.lists k ys [] second) in
     apart_same t.lists k n table.lists_apart (slice_get_within t.lists k ys second) (slice_get_within t.lists n xs first) here
-
-one_list : (a b : List ℕ) → Some a ≡ Some b → a ≡ b
-one_list a b same = cc
-
-test_of : (b c : Bool) → (b ≡ true → c ≡ true) → (c ≡ true → b ≡ true) → b ≡ c
-test_of true c forth back = sym (forth refl)
-test_of false true forth back = back refl
-test_of false false forth back = refl
 
 -- whether a record is of the shape
 shape_test : (t u : Shapes) (n k : ℕ) (fs : Fields) (list found : List ℕ) → IsShapes t → IsShapes u → Extends t u → slice_get u.lists n ≡ Some list → named u.names list ≡ names_of fs → slice_get t.lists k ≡ Some found → has_names fs (named t.names found) ≡ nat_eq n k

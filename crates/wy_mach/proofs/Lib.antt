@@ -32,3 +32,4 @@ pub mod LongestLemmas
 pub mod StartLemmas
 pub mod RunLemmas
 pub mod PaceLemmas
+pub mod sharing_laws_lemmas

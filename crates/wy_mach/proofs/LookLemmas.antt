@@ -8,7 +8,7 @@ use Rattle.wy_heap.specs.declared.heap.Heap.{Heap}
 use Rattle.wy_heap.specs.Nodes.{Map, map_of, holds}
 use Rattle.wy_heap.specs.Meaning.{Means}
 use Rattle.wy_sem.specs.Expressions.{slot}
-use Rattle.wy_step.specs.Step.{Effect, there, as_items, gives}
+use Rattle.wy_code_spec.specs.step.Step.{Effect, there, as_items, gives}
 use Rattle.wy_mach.specs.Showing.{ShowsSlot, WentOn, AreRegisters, Puts}
 use Rattle.wy_mach.specs.Operands.{Reads}
 use Rattle.wy_mach.specs.Looking.{length_in}

@@ -11,19 +11,15 @@ use Rattle.wy_heap.specs.Changing.{Lasts}
 use Rattle.wy_heap.proofs.CountLemmas.{held-append}
 use Rattle.wy_heap.proofs.LeadLemmas.{means_same}
 use Rattle.wy_heap.proofs.RowLemmas.{restood, as_before}
-use Rattle.wy_sem.specs.Expressions.{Store, data_of}
-use Rattle.wy_step.specs.Step.{Effect, moved_all, gives}
+use Rattle.wy_sem.specs.Expressions.{Store}
+use Rattle.wy_code_spec.specs.step.Step.{Effect, moved_all, gives}
 use Rattle.wy_mach.specs.declared.stop.Stop.{Stop}
 use Rattle.wy_mach.specs.declared.stop.Stop.TheVariants.{Stuck, NoMemory}
 use Rattle.wy_mach.specs.Showing.{Shows, Leaves, WentOn, IsStop, Turns, AreRegisters, IsBeside, Puts}
 use Rattle.wy_mach.specs.Taking.{taken, emptied, AreWithin, AreTaken, TakenTurns, GivesMade}
 use Rattle.wy_mach.proofs.RegisterLemmas.{shows_kept, keeps_fewer, acts_others, put_shows}
 use Rattle.wy_mach.proofs.TakeLemmas.{took, taken_stands, beyond_fails}
-
--- what follows of an answer that went
-pub on_ok : {T E : Type 0} (r : Result T E) (P Q : Type 0) → (P → Q) → OnOk r P → OnOk r Q
-on_ok (Ok x) P Q f p = f p
-on_ok (Err e) P Q f p = tt
+use Rattle.wy_value.specs.Seen.{data_of}
 
 pub ok_pair : {T E : Type 0} (r : Result T E) (P Q : Type 0) → OnOk r P → OnOk r Q → OnOk r (P × Q)
 ok_pair (Ok x) P Q p q = (p, q)

@@ -15,7 +15,7 @@ use Rattle.wy_heap.proofs.CountLemmas.{held-append, held-set}
 use Rattle.wy_heap.proofs.LeadLemmas.{means_same}
 use Rattle.wy_heap.proofs.RowLemmas.{as_before, first_scalar}
 use Rattle.wy_sem.specs.Expressions.{Store, slot, put}
-use Rattle.wy_step.specs.Step.{GoesOn, there, gives, moved, cleared, scalar_of}
+use Rattle.wy_code_spec.specs.step.Step.{GoesOn, there, gives, moved, cleared, scalar_of}
 use Rattle.wy_mach.specs.Showing.{Shows, Leaves, WentOn, Turns, AreRegisters, IsBeside, Puts, scalar_kind}
 use Rattle.wy_mach.proofs.EffectLemmas.{by_there}
 use Rattle.wy_mach.proofs.RegisterLemmas.{shows_kept, shows_put, shows_slot, keeps_fewer, put_in, taken_out, shared_in, acts_others, put_shows, scalar_shows, scalar_free}

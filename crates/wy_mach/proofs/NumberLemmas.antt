@@ -10,7 +10,7 @@ use Rattle.wy_heap.specs.Nodes.{map_of, holds}
 use Rattle.wy_sem.specs.Expressions.{Store, slot}
 use Rattle.wy_code.specs.declared.instructions.Arithmetic.{Arithmetic}
 use Rattle.wy_code.specs.declared.instructions.Comparison.{Comparison}
-use Rattle.wy_step.specs.Step.{Effect, Fails, there, numbers, as_truth, gives, gives_int, computes, compares, where_so}
+use Rattle.wy_code_spec.specs.step.Step.{Effect, Fails, there, numbers, as_truth, gives, gives_int, computes, compares, where_so}
 use Rattle.wy_mach.specs.Showing.{ShowsSlot, Shows, Leaves, WentOn, HasNone, AreRegisters, Puts}
 use Rattle.wy_mach.specs.Operands.{number_in, truth_in, Reads}
 use Rattle.wy_mach.proofs.RegisterLemmas.{scalar_shows}
@@ -23,18 +23,6 @@ there_none o next none = ap (λ x. there x next) none
 
 pub there_some : {X : Type 0} (o : Option X) (next : X → Effect) (x : X) → o ≡ Some x → there o next ≡ next x
 there_some o next x some = ap (λ y. there y next) some
-
-there_fails : {X : Type 0} (o : Option X) (next : X → Effect) → ((x : X) → next x ≡ Fails) → there o next ≡ Fails
-there_fails None next fails = refl
-there_fails (Some x) next fails = fails x
-
-no_left : (s : Store) (a b : ℕ) (next : ℤ → ℤ → Effect) → number_in (slot s a) ≡ None → numbers s a b next ≡ Fails
-no_left s a b next none = numbers-there s a b next ∙ there_none (number_in (slot s a)) (λ x. there (number_in (slot s b)) (λ y. next x y)) none
-
-no_right : (s : Store) (a b : ℕ) (next : ℤ → ℤ → Effect) → number_in (slot s b) ≡ None → numbers s a b next ≡ Fails
-no_right s a b next none =
-    numbers-there s a b next
-    ∙ there_fails (number_in (slot s a)) (λ x. there (number_in (slot s b)) (λ y. next x y)) (λ x. there_none (number_in (slot s b)) (λ y. next x y) none)
 
 two_numbers : (s : Store) (a b : ℕ) (next : ℤ → ℤ → Effect) (x y : ℤ) → number_in (slot s a) ≡ Some x → number_in (slot s b) ≡ Some y → numbers s a b next ≡ next x y
 two_numbers s a b next x y left right =

@@ -10,7 +10,7 @@ use Rattle.wy_heap.specs.Nodes.{Map, map_of}
 use Rattle.wy_heap.specs.Meaning.{Means}
 use Rattle.wy_heap.specs.Parts.{IsKind}
 use Rattle.wy_sem.specs.Expressions.{Store, slot}
-use Rattle.wy_step.specs.Step.{Effect, Fails, there, as_number, as_truth, numbers}
+use Rattle.wy_code_spec.specs.step.Step.{Effect, Fails, there, as_number, as_truth, numbers}
 use Rattle.wy_mach.specs.Showing.{ShowsSlot}
 use Rattle.wy_mach.proofs.RegisterLemmas.{shows_at, slot_beyond}
 use Rattle.wy_mach.specs.Operands.{number_in, truth_in, number_of, truth_of, Reads}

@@ -14,7 +14,7 @@ use Rattle.wy_heap.specs.Slots.{Step, HasStep, child, step_of, field_step, IsSlo
 use Rattle.wy_heap.proofs.MeaningLemmas.{means_unique}
 use Rattle.wy_sem.specs.Operations.{find}
 use Rattle.wy_sem.specs.Expressions.{Store, slot, put}
-use Rattle.wy_step.specs.Step.{Effect, Fails, there, as_fields, gives}
+use Rattle.wy_code_spec.specs.step.Step.{Effect, Fails, there, as_fields, gives}
 use Rattle.wy_mach.specs.declared.stop.Stop.{Stop}
 use Rattle.wy_mach.specs.declared.stop.Stop.TheVariants.{Stuck, NoMemory}
 use Rattle.wy_mach.specs.Showing.{Shows, Leaves, WentOn, IsStop, AreRegisters, Puts}

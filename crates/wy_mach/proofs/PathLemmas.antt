@@ -1,8 +1,10 @@
 -- What is on a path, as the heap finds it and as the step on values does.
-use Rattle.std.proofs.Common.{◌≡◌, ℕ, zero, suc, ◌+◌, ◌<◌, List, [], ◌∷◌, length, Bool, true, false, cond, ◌&&◌, Option, Some, None, IsSome, refl, sym, ◌∙◌, ap, subst, arith}
+use Rattle.std.proofs.Common.{◌≡◌, ℕ, zero, suc, ◌+◌, ◌<◌, List, [], ◌∷◌, length, Bool, true, false, cond, Option, Some, None, IsSome, refl, sym, ◌∙◌, ap, subst, arith}
 use Rattle.std.specs.Prelude.{bytes_eq, if◌then◌else◌, slice_get, nat_lt, is_some, min}
 use Rattle.std.proofs.lemmas.Bool.Decides.{nat_tests}
 use Rattle.slab.specs.Slab.{get}
+use Rattle.wy_lemmas.proofs.Choices.{both_parts as both_true}
+use Rattle.wy_lemmas.proofs.Numbers.{one_more}
 use Rattle.wy_value.specs.Datum.{Datum, Null, Truth, Whole, Array, Record, Data, no_items, item, Fields, no_fields, field}
 use Rattle.wy_value.specs.Values.{length_of, names_of}
 use Rattle.wy_value.specs.declared.shapes.Shapes.{Shapes}
@@ -19,7 +21,7 @@ use Rattle.wy_heap.specs.Slots.{Step, field_step, step_of, steps_of, HasStep, Ha
 use Rattle.wy_heap.proofs.SlotLemmas.{child_means, means_there}
 use Rattle.wy_heap.proofs.BuildLemmas.{len_is}
 use Rattle.wy_sem.specs.Operations.{set_item, find, set_field, or_null, Slot, ItemSlot, FieldSlot, part_at, with_part, updated}
-use Rattle.wy_step.specs.Step.{has_part, has_path}
+use Rattle.wy_code_spec.specs.step.Step.{has_part, has_path}
 use Rattle.wy_mach.proofs.FieldLemmas.{nth-item_at, find-nth, find_within}
 
 -- ---- slots
@@ -58,9 +60,6 @@ put_nth-set_item : (ds : Data) (i : ℕ) (u : Datum) → put_nth ds i u ≡ set_
 put_nth-set_item no_items i u = refl
 put_nth-set_item (item d ds) zero u = refl
 put_nth-set_item (item d ds) (suc i) u = ap (item d) (put_nth-set_item ds i u)
-
-one_more : (n : ℕ) → n + 1 ≡ suc n
-one_more n = omega arith
 
 put_field-next : (n : List ℕ) (d : Datum) (fs : Fields) (i : ℕ) (u : Datum) → put_field (field n d fs) (i + 1) u ≡ field n d (put_field fs i u)
 put_field-next n d fs i u = ap (λ (j : ℕ). put_field (field n d fs) j u) (one_more i)
@@ -124,10 +123,6 @@ part_leads h p (Record fs) (FieldSlot name) (heap_slot.Field f) means same has =
 pub record LeadsAlong (d : Datum) (path : List Step) (xs : List Slot) : Type 0 where
   pub has : HasPath d path
   pub put_is : (u : Datum) → heap_slots.put d path u ≡ updated d xs u
-
-both_true : (a b : Bool) → (a && b) ≡ true → (a ≡ true) × (b ≡ true)
-both_true true b is = (refl, is)
-both_true false b is = absurd (cc)
 
 along_more : (h : Heap) (d : Datum) (x : Slot) (xs : List Slot) (step : Step) (path : List Step) → Leads d step x → LeadsAlong (part_at x d) path xs → LeadsAlong d (step ∷ path) (x ∷ xs)
 along_more h d x xs step path first rest = record {

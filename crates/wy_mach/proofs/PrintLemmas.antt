@@ -1,26 +1,22 @@
 -- What prints leave, and what the sink took of them.
-use Rattle.std.proofs.Common.{◌≡◌, inl, inr, ℕ, ◌+◌, ◌≤◌, List, [], ◌∷◌, ◌++◌, length, get_or, take, drop, Bool, true, false, cond, Option, Some, None, ℤ, refl, sym, ◌∙◌, ap, subst, arith, append_assoc}
-use Rattle.std.proofs.lemmas.List.{append-nil, length-drop, length-take, take-take}
+use Rattle.std.proofs.Common.{◌≡◌, ℕ, ◌+◌, ◌≤◌, List, ◌∷◌, length, get_or, take, drop, Bool, true, false, cond, Option, Some, None, refl, sym, ◌∙◌, ap, subst, arith}
+use Rattle.std.proofs.lemmas.List.{length-drop, length-take, take-take}
 use Rattle.std.proofs.Math.Nat.{min-le_left, min-le_right}
 use Rattle.std.proofs.Math.Seq.{take-add}
-use Rattle.std.specs.Prelude.{Result, Ok, Err, OnOk, OnErr, IfErr}
-use Rattle.std.specs.Fmt.{signed_decimal}
+use Rattle.wy_port.proofs.TakenLemmas.{with_taken-append}
 use Rattle.wy_value.specs.Datum.{Datum, Null, Truth, Whole, Array, Record, Data, no_items, item}
 use Rattle.wy_heap.specs.declared.part.Part.{Part}
 use Rattle.wy_heap.specs.declared.part.Part.TheVariants as part
 use Rattle.wy_heap.specs.declared.heap.Heap.{Heap}
 use Rattle.wy_heap.specs.Nodes.{map_of}
 use Rattle.wy_heap.specs.Meaning.{Means}
-use Rattle.wy_port.specs.Count.{Rose}
 use Rattle.wy_port.specs.Taken.{TookFront, with_taken}
 use Rattle.wy_sem.specs.Operations.{nat_of}
 use Rattle.wy_sem.specs.Expressions.{Store, slot}
 use Rattle.wy_sem.specs.Evaluation.{is_ascii}
-use Rattle.wy_step.specs.Step.{Effect, GoesOn, Fails, there, as_items, as_number, as_bytes, where_so}
+use Rattle.wy_code_spec.specs.step.Step.{Effect, GoesOn, Fails, there, as_items, as_bytes, where_so}
 use Rattle.wy_mach.specs.Showing.{Shows, HasNone}
-use Rattle.wy_mach.specs.Operands.{number_in, Reads}
 use Rattle.wy_mach.proofs.EffectLemmas.{by_there}
-use Rattle.wy_mach.proofs.OperandLemmas.{number-there}
 use Rattle.wy_mach.proofs.RegisterLemmas.{shows_slot, slot_within}
 use Rattle.wy_mach.specs.Texts.{code_before, codes_of, text_in, IsText}
 use Rattle.wy_mach.specs.Printed.{TookAll, TookSome, Prints, PrintsSome, IsPrintStop, IsTextStop}
@@ -83,33 +79,7 @@ print_beyond h ps from beyond s shows =
     by_there (λ (e : Effect). e ≡ Fails) (slot s from) (λ v. as_items v (λ ds. as_bytes ds (λ bytes. GoesOn s bytes))) refl
     (λ v holds_v. absurd (omega (arith, slot_within (map_of h) s ps from v shows holds_v)))
 
--- ---- `PrintInt`
-
-number_read : (h : Heap) (ps : List Part) (from : ℕ) (o : Option ℤ) (s : Store) → Reads h ps from number_in o → Shows (map_of h) s ps → there (slot s from) (λ v. as_number v (λ z. GoesOn s (signed_decimal z))) ≡ there o (λ z. GoesOn s (signed_decimal z))
-number_read h ps from o s reads shows =
-    number-there (slot s from) (λ z. GoesOn s (signed_decimal z)) ∙ ap (λ (x : Option ℤ). there x (λ z. GoesOn s (signed_decimal z))) (sym (reads s shows))
-
-pub int_goes : (h : Heap) (ps : List Part) (from : ℕ) (z : ℤ) (before after : Option (List ℕ)) → Reads h ps from number_in (Some z) → after ≡ with_taken before (signed_decimal z)
-    → Prints (map_of h) ps before after (λ s. there (slot s from) (λ v. as_number v (λ y. GoesOn s (signed_decimal y))))
-int_goes h ps from z before after reads took s shows = subst (TookAll s before after) (sym (number_read h ps from (Some z) s reads shows)) (refl, took)
-
-pub int_breaks : (h : Heap) (ps : List Part) (from : ℕ) (z : ℤ) (before after : Option (List ℕ)) → Reads h ps from number_in (Some z) → TookFront before after (signed_decimal z)
-    → PrintsSome (map_of h) ps before after (λ s. there (slot s from) (λ v. as_number v (λ y. GoesOn s (signed_decimal y))))
-int_breaks h ps from z before after reads took s shows = subst (TookSome before after) (sym (number_read h ps from (Some z) s reads shows)) took
-
-pub int_none : (h : Heap) (ps : List Part) (from : ℕ) → Reads h ps from number_in None
-    → HasNone (map_of h) ps (λ s. there (slot s from) (λ v. as_number v (λ y. GoesOn s (signed_decimal y))))
-int_none h ps from reads s shows = number_read h ps from None s reads shows
-
 -- ---- pieces
-
-with_taken-append : (known : Option (List ℕ)) (a b : List ℕ) → with_taken (with_taken known a) b ≡ with_taken known (a ++ b)
-with_taken-append None a b = refl
-with_taken-append (Some bytes) a b = ap (λ (all : List ℕ). Some all) (append_assoc bytes a b)
-
-pub with_taken-nil : (known : Option (List ℕ)) → known ≡ with_taken known []
-with_taken-nil None = refl
-with_taken-nil (Some bytes) = ap (λ (all : List ℕ). Some all) (sym (append-nil bytes))
 
 -- a front of the bytes was taken, and then one of the rest
 more_taken : (before between after : Option (List ℕ)) (bytes : List ℕ) (start more : ℕ) → between ≡ with_taken before (take start bytes) → after ≡ with_taken between (take more (drop start bytes)) → after ≡ with_taken before (take (start + more) bytes)
@@ -133,23 +103,7 @@ piece_front before between after bytes sent start many within so_far is front =
       took = more_taken before between after bytes start front.count so_far (front.took ∙ ap (with_taken between) parts);
     }
 
-pub rose_later : (a b c : ℕ) → a ≤ b → Rose b c → Rose a c
-rose_later a b c later (inl more) = inl (omega arith)
-rose_later a b c later (inr last) = inr last
-
 -- ---- answers
-
-pub on_ok : {T E : Type 0} (r : Result T E) (P Q : Type 0) → (P → Q) → OnOk r P → OnOk r Q
-on_ok (Ok x) P Q f p = f p
-on_ok (Err e) P Q f p = tt
-
-pub if_err : {T E : Type 0} (r : Result T E) (P Q : E → Type 0) → ((e : E) → P e → Q e) → IfErr r P → IfErr r Q
-if_err (Ok x) P Q f p = tt
-if_err (Err e) P Q f p = f e p
-
-pub on_any_err : {T E : Type 0} (r : Result T E) (Q : Type 0) → Q → OnErr r Q
-on_any_err (Ok x) Q q = tt
-on_any_err (Err e) Q q = q
 
 pub print_stop : (h : Heap) (ps : List Part) (from : ℕ) (p : Part) (before after : Option (List ℕ)) (failed fails : ℕ) (stop : PrintStop) → p ≡ get_or ps from part.Null → IsTextStop h p before after failed fails stop
     → IsPrintStop (map_of h) ps before after failed fails (λ s. there (slot s from) (λ v. as_items v (λ ds. as_bytes ds (λ bytes. GoesOn s bytes)))) stop

@@ -1,6 +1,7 @@
 -- A record of what registers held.
 use Rattle.std.proofs.Common.{◌≡◌, ◌≢◌, inl, inr, ℕ, zero, suc, ◌<◌, List, [], ◌∷◌, length, get_or, slice_get, Option, Some, None, refl, sym, ◌∙◌, ap, subst, arith}
 use Rattle.wy_value.specs.Datum.{Datum, Record, Fields}
+use Rattle.wy_value.specs.Seen.{data_of}
 use Rattle.wy_value.specs.Values.{length_of}
 use Rattle.wy_value.specs.Shapes.{IsShapes, named}
 use Rattle.wy_value.specs.declared.shapes.Shapes.{Shapes}
@@ -12,8 +13,8 @@ use Rattle.wy_heap.specs.Slots.{joined}
 use Rattle.wy_heap.specs.Extending.{Extends}
 use Rattle.wy_heap.proofs.MeaningLemmas.{mean_all-length}
 use Rattle.wy_heap.proofs.CompareLemmas.{numbers_in}
-use Rattle.wy_sem.specs.Expressions.{Store, data_of}
-use Rattle.wy_step.specs.Step.{Effect, Fails, there, moved_all, gives, record_of, behind_field, names_in, shape_names}
+use Rattle.wy_sem.specs.Expressions.{Store}
+use Rattle.wy_code_spec.specs.step.Step.{Effect, Fails, there, moved_all, gives, record_of, behind_field, names_in, shape_names}
 use Rattle.wy_mach.specs.declared.stop.Stop.{Stop}
 use Rattle.wy_mach.specs.declared.stop.Stop.TheVariants.{Stuck, NoMemory}
 use Rattle.wy_mach.specs.Showing.{Shows, Leaves, WentOn, HasNone, IsStop}

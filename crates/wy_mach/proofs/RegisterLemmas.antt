@@ -70,12 +70,6 @@ put_in h p old ps others i is below stands =
     restood h (p ∷ (ps ++ others)) (old ∷ (set ps i p ++ others))
     (λ k. omega (arith, held-append k ps others, held-append k (set ps i p) others, held-set k ps i p below, ap (holds k) is)) stands
 
--- a register behind the last stays away
-pub set_beyond : (ps : List Part) (i : ℕ) (p : Part) → length ps ≤ i → set ps i p ≡ ps
-set_beyond [] i p beyond = refl
-set_beyond (q ∷ ps) zero p beyond = absurd (omega arith)
-set_beyond (q ∷ ps) (suc i) p beyond = ap (λ (l : List Part). q ∷ l) (set_beyond ps i p (omega arith))
-
 -- what is taken out, and the rest
 pub taken_out : (h : Heap) (p : Part) (ps others : List Part) (i : ℕ) → p ≡ get_or ps i Null → i < length ps → Stands h (ps ++ others) → Stands h (p ∷ (set ps i Null ++ others))
 taken_out h p ps others i is below stands =
@@ -134,10 +128,6 @@ put_shows h n s ps qs i o p beside puts is shows here =
 pub scalar_shows : (h n : Heap) (s : Store) (ps qs : List Part) (i : ℕ) (o : Option Datum) (p : Part) → AreRegisters h ps → ((k : ℕ) → holds k p ≡ 0) → Puts h n ps p qs → qs ≡ set ps i p → Shows (map_of h) s ps → ShowsSlot (map_of h) o p → Shows (map_of n) (put s i o) qs
 scalar_shows h n s ps qs i o p held none puts is shows here =
     put_shows h n s ps qs i o p (held.0, scalar_beside h p ps held.0 none held.1) puts is shows here
-
--- nothing happened
-pub stays : (h : Heap) (ps : List Part) → Turns h h ps ps
-stays h ps others stands = record { stands = stands; keeps = λ q d among means. means }
 
 -- what was read, by any value for a register that isn't there
 pub read_part : (ps : List Part) (i : ℕ) (p d : Part) → i < length ps → p ≡ get_or ps i d → p ≡ get_or ps i Null

@@ -4,6 +4,7 @@ use Rattle.std.specs.Prelude.{Vec, nat_eq, slice_get, ⊤}
 use Rattle.std.specs.declared.alloc.Global.{Global}
 use Rattle.std.proofs.lemmas.List.{append-nil, length-append, take-append-le, take_all}
 use Rattle.std.proofs.Math.Seq.{take-append-add}
+use Rattle.wy_port.proofs.TakenLemmas.{with_taken-append}
 use Rattle.wy_port.specs.Count.{Rose}
 use Rattle.wy_port.specs.Taken.{TookFront, with_taken}
 use Rattle.wy_value.specs.Datum.{Datum}
@@ -11,8 +12,8 @@ use Rattle.wy_heap.specs.declared.heap.Heap.{Heap}
 use Rattle.wy_code.specs.declared.instructions.Instr.{Instr}
 use Rattle.wy_code.specs.declared.routines.Routine.{Routine}
 use Rattle.wy_code.specs.declared.routines.Code.{Code}
-use Rattle.wy_step.specs.Step as step
-use Rattle.wy_step.specs.Step.{Frame, Caller, State, Runs, Ended, Stuck, Effect, GoesOn, GoesTo, Calls, Returns, Fails, effect, stepped, executed, entered, returned, next_of, after}
+use Rattle.wy_code_spec.specs.step.Step as step
+use Rattle.wy_code_spec.specs.step.Step.{Frame, Caller, State, Runs, Ended, Stuck, Effect, GoesOn, GoesTo, Calls, Returns, Fails, effect, stepped, executed, entered, returned, next_of, after}
 use Rattle.wy_mach.specs.declared.machine.Machine.{Machine}
 use Rattle.wy_mach.specs.States.{ShowsState}
 use Rattle.wy_mach.specs.Running.{Reaches, EndsWith, Breaks, Steps, IsDone, HasNoNext, HasSteps, HasTextOf, LeavesResult, ShowsFirst, Spends, Finishes, PrintsFront, IsStuck, next_in}
@@ -37,10 +38,6 @@ follows_first code k first steps left same st shows = (st, stays_first k first s
     stays_first k first Stuck shows = tt
 
 -- ---- one more turn
-
-with_taken-append : (known : Option (List ℕ)) (a b : List ℕ) → with_taken (with_taken known a) b ≡ with_taken known (a ++ b)
-with_taken-append None a b = refl
-with_taken-append (Some bytes) a b = ap (λ (all : List ℕ). Some all) (append_assoc bytes a b)
 
 reaches_stays : (new : Machine) (first before now : Option (List ℕ)) (out : List ℕ) (st : State) → before ≡ with_taken first out → Reaches new before now out st → Stays new first now st
 reaches_stays new first before now out (Runs fr callers more) so_far reaches =

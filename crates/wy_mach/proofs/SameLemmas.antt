@@ -3,20 +3,10 @@ use Rattle.std.proofs.Common.{◌≡◌, Bool, true, false, ◌&&◌, ℤ, refl,
 use Rattle.std.specs.Prelude.{int_le, bytes_eq}
 use Rattle.std.proofs.lemmas.Int.{ints}
 use Rattle.std.proofs.lemmas.Slice.Eq.{bytes_eq-Decides}
+use Rattle.wy_lemmas.proofs.Choices.{both_parts as both, both_true as joined}
+use Rattle.wy_sem.proofs.SharedLemmas.{agrees_self}
 use Rattle.wy_value.specs.Datum.{Datum, Null, Truth, Whole, Array, Record, Data, no_items, item, Fields, no_fields, field}
 use Rattle.wy_sem.specs.Operations.{agrees, same_number, same, same_items, same_fields}
-
-both : (a b : Bool) → (a && b) ≡ true → (a ≡ true) × (b ≡ true)
-both true b h = (refl, h)
-both false b h = absurd (cc)
-
-joined : (a b : Bool) → a ≡ true → b ≡ true → (a && b) ≡ true
-joined true b h k = k
-joined false b h k = absurd (cc)
-
-agrees_self : (b : Bool) → agrees b b ≡ true
-agrees_self true = refl
-agrees_self false = refl
 
 agrees_is : (a b : Bool) → agrees a b ≡ true → a ≡ b
 agrees_is true true h = refl

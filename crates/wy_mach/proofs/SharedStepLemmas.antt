@@ -28,7 +28,7 @@ use Rattle.wy_code.specs.declared.instructions.Instr.TheVariants as instr
 use Rattle.wy_code.specs.declared.routines.Routine.{Routine}
 use Rattle.wy_code.specs.declared.routines.Code.{Code}
 use Rattle.wy_sem.specs.Expressions.{Store, slot}
-use Rattle.wy_step.specs.Step.{instr_at}
+use Rattle.wy_code_spec.specs.step.Step.{instr_at}
 use Rattle.wy_mach.specs.Showing.{ShowsSlot, Shows}
 use Rattle.wy_mach.specs.Operands.{Reads, number_in, truth_in}
 use Rattle.wy_mach.specs.Paths.{IsSlotOf, AreSlotsOf}

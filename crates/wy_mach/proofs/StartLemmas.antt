@@ -1,39 +1,34 @@
 -- The first state of a run.
-use Rattle.std.proofs.Common.{◌≡◌, inl, inr, ℕ, ◌-◌, List, [], ◌∷◌, ◌++◌, length, reverse, map, Bool, cond, Option, Some, IsSome, refl, sym, ◌∙◌, ap, subst, arith}
+use Rattle.std.proofs.Common.{◌≡◌, inl, inr, ℕ, List, [], ◌∷◌, ◌++◌, reverse, map, Option, Some, IsSome, refl, sym, ◌∙◌, ap, subst, arith}
 use Rattle.std.specs.Prelude.{slice_get}
 use Rattle.std.proofs.lemmas.Bool.{cases_eq}
 use Rattle.std.proofs.lemmas.List.{append-nil}
 use Rattle.wy_value.specs.declared.value.Value.{Value}
 use Rattle.wy_value.specs.declared.shapes.Shapes.{Shapes}
 use Rattle.wy_value.specs.Datum.{Datum, Data, no_items, item}
-use Rattle.wy_value.specs.Seen.{seen, seen_items}
+use Rattle.wy_value.specs.Seen.{seen, seen_items, data_of}
 use Rattle.wy_heap.specs.declared.part.Part.{Part}
 use Rattle.wy_heap.specs.declared.heap.Heap.{Heap}
 use Rattle.wy_heap.specs.Nodes.{Map, map_of, at, count_at}
 use Rattle.wy_heap.specs.Meaning.{Means, MeanAll}
 use Rattle.wy_heap.specs.Extending.{Extends}
 use Rattle.wy_heap.specs.Importing.{Grew, OnlyOnes}
-use Rattle.wy_heap.specs.Reaching.{Reach, root, part}
 use Rattle.wy_heap.specs.Standing.{Stands, Acts, Keeps, IsAsBefore}
 use Rattle.wy_heap.proofs.LeadLemmas.{counts_same, within_same}
 use Rattle.wy_heap.proofs.CountLemmas.{held-append}
-use Rattle.wy_heap.proofs.LawLemmas.{nodes_are_reached}
+use Rattle.wy_heap.proofs.LawLemmas.{nodes_are_reached, unreached}
 use Rattle.wy_heap.proofs.RowLemmas.{restood, last_in}
 use Rattle.wy_code.specs.declared.routines.Routine.{Routine}
 use Rattle.wy_code.specs.declared.routines.Code.{Code}
-use Rattle.wy_sem.specs.Expressions.{data_of}
-use Rattle.wy_step.specs.Step.{Frame, Runs, Stuck, entered, holding, empties}
-use Rattle.wy_mach.specs.Showing.{Shows}
 use Rattle.wy_mach.specs.Taking.{nulls}
 use Rattle.wy_mach.proofs.RegisterLemmas.{keeps_fewer, among_first}
 use Rattle.wy_mach.specs.declared.machine.Machine.{Machine}
-use Rattle.wy_mach.specs.Running.{ShowsFirst, Starts}
 use Rattle.wy_mach.specs.declared.frames.Caller as of_callers
 use Rattle.wy_mach.specs.States.{places_below, places_of}
 use Rattle.wy_mach.specs.SharedSteps.{ArePlaced, IsFirst}
 use Rattle.wy_mach.specs.SharedTurns.{waiting_of, state_of}
 use Rattle.wy_mach.proofs.SharedStepLemmas.{no_dead, holders_are}
-use Rattle.wy_mach.proofs.CallLemmas.{alike, held-nulls}
+use Rattle.wy_mach.proofs.CallLemmas.{held-nulls}
 
 -- ---- the arguments
 
@@ -94,18 +89,6 @@ extends_on t u v first second = record {
 }
 
 -- ---- the machine
-
-pub start_shows : (code : Code) (entry : ℕ) (r : Routine) (vs : List Datum) (k : Machine) → slice_get code.routines entry ≡ Some r → length vs ≡ r.params → k.frame.routine ≡ entry → k.frame.at ≡ 0 → k.callers.items ≡ [] → Shows (map_of k.heap) (holding vs ++ empties (r.registers - length vs)) k.frame.registers.items → Starts code entry vs k
-start_shows code entry r vs k is many routine at none shows =
-    let first : Frame = record { routine = entry; at = 0; registers = holding vs ++ empties (r.registers - length vs) } in
-    subst (λ (o : Option Routine). ShowsFirst k (entered o entry vs [] [])) (sym is)
-    (subst (λ (b : Bool). ShowsFirst k (cond b (Runs first [] []) Stuck)) (sym (alike (length vs) r.params many))
-    (record { frame = record { routine = routine; at = at; registers = shows }; callers = ap reverse none }, refl))
-
--- what nothing holds has no count
-unreached : (m : Map) (k : ℕ) → Reach m [] k → ⊥
-unreached m k (root _ some) = omega (arith, some)
-unreached m k (part j _ b reach is some) = unreached m j reach
 
 no_counts : (h : Heap) → Stands h [] → (k : ℕ) → count_at h k ≡ 0
 no_counts h stands k = elim (cases_eq (count_at h k) 0) [

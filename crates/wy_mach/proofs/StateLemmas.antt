@@ -5,7 +5,7 @@ use Rattle.wy_port.specs.Taken.{with_taken}
 use Rattle.wy_heap.specs.Nodes.{Map, map_of}
 use Rattle.wy_heap.specs.Standing.{Stands, Keeps}
 use Rattle.wy_heap.proofs.CountLemmas.{held-append}
-use Rattle.wy_step.specs.Step.{Frame, Caller}
+use Rattle.wy_code_spec.specs.step.Step.{Frame, Caller}
 use Rattle.wy_mach.specs.Showing.{Turns, AreRegisters}
 use Rattle.wy_mach.proofs.RegisterLemmas.{shows_kept, keeps_fewer}
 use Rattle.wy_mach.specs.declared.frames.Frame as of_frames

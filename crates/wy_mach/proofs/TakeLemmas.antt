@@ -9,12 +9,13 @@ use Rattle.wy_heap.specs.Meaning.{MeanAll}
 use Rattle.wy_heap.specs.Standing.{Stands}
 use Rattle.wy_heap.proofs.CountLemmas.{held-append, held-set}
 use Rattle.wy_heap.proofs.RowLemmas.{restood}
-use Rattle.wy_sem.specs.Expressions.{Store, slot, put, data_of}
-use Rattle.wy_step.specs.Step.{Effect, Fails, there, moved_all}
+use Rattle.wy_sem.specs.Expressions.{Store, slot, put}
+use Rattle.wy_code_spec.specs.step.Step.{Effect, Fails, there, moved_all}
 use Rattle.wy_mach.specs.Showing.{Shows}
 use Rattle.wy_mach.specs.Taking.{taken, emptied, AreWithin}
 use Rattle.wy_mach.proofs.RegisterLemmas.{shows_put, shows_slot, slot_within}
 use Rattle.wy_mach.proofs.EqualLemmas.{length-set_part}
+use Rattle.wy_value.specs.Seen.{data_of}
 
 -- ---- holders
 

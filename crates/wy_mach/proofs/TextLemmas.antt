@@ -6,17 +6,14 @@ use Rattle.std.proofs.lemmas.List.{take_more, take_more_set, get_or-drop, length
 use lib.IntN.{nat_abs}
 use Rattle.wy_value.specs.Datum.{Datum, Null, Truth, Whole, Array, Record, Data, no_items, item}
 use Rattle.wy_value.specs.Values.{length_of}
-use Rattle.wy_value.specs.declared.shapes.Shapes.{Shapes}
 use Rattle.wy_heap.specs.declared.part.Part.{Part}
-use Rattle.wy_heap.specs.declared.part.Kind as kind
 use Rattle.wy_heap.specs.declared.heap.Heap.{Heap}
 use Rattle.wy_heap.specs.Nodes.{map_of}
 use Rattle.wy_heap.specs.Meaning.{Means}
-use Rattle.wy_heap.specs.Parts.{IsKind}
 use Rattle.wy_heap.specs.Slots.{nth, HasStep, child, item_at}
 use Rattle.wy_heap.proofs.MeaningLemmas.{means_unique}
 use Rattle.wy_mach.specs.Looking.{length_in, IsItem}
-use Rattle.wy_mach.specs.Texts.{ascii_of, kind_code, code_in, code_before, codes_of, text_in, IsText, HasText}
+use Rattle.wy_mach.specs.Texts.{ascii_of, code_in, code_before, codes_of, text_in, IsText, HasText}
 
 -- ---- codes
 
@@ -69,13 +66,6 @@ codes_none (item d ds) (suc k) below none = ap (code_before (code_in d)) (codes_
 
 -- ---- texts
 
-pub no_length : (d : Datum) → None ≡ length_in (Some d) → text_in d ≡ None
-no_length Null is = refl
-no_length (Truth b) is = refl
-no_length (Whole z) is = refl
-no_length (Array ds) is = absurd (cc)
-no_length (Record fs) is = refl
-
 text_lacks : (d : Datum) (i : ℕ) → HasStep d (item_at i) → code_in (child d (item_at i)) ≡ None → text_in d ≡ None
 text_lacks Null i has none = absurd has
 text_lacks (Truth b) i has none = absurd has
@@ -102,9 +92,6 @@ text_of h p n (Array ds) means is all =
 -- where each item is a code, there is a text
 pub has_text : (h : Heap) (p : Part) (n : ℕ) (d : Datum) → Means (map_of h) d p → ((e : Datum) → Means (map_of h) e p → Some n ≡ length_in (Some e)) → ((e : Datum) → Means (map_of h) e p → (k : ℕ) → k < n → IsSome (code_in (child e (item_at k)))) → HasText h p n
 has_text h p n d means is all = text_of h p n d means (is d means) (all d means)
-
-pub some_code : (o : Option ℕ) (p : Option ℕ) (b : ℕ) → o ≡ p → o ≡ Some b → IsSome p
-some_code o p b same is = subst IsSome (sym is ∙ same) refl
 
 -- a place stands for one text
 pub same_text : (h : Heap) (p : Part) (a b : List ℕ) → IsText h p a → IsText h p b → a ≡ b
@@ -135,16 +122,6 @@ text_code h p i o bytes text of is =
     of is.0 is.1 ∙ (item_of is.0 bytes i is.2 (omega (arith, ap length same, text.1.2, text.2))).1
 
 -- ---- kinds
-
-kind_datum : (t : Shapes) (d : Datum) (k : kind.Kind) → IsKind t d k → kind_code k ≡ code_in d
-kind_datum t Null k of = ap kind_code of
-kind_datum t (Truth b) k of = ap kind_code of
-kind_datum t (Whole z) k of = ap kind_code of
-kind_datum t (Array ds) k of = ap kind_code of
-kind_datum t (Record fs) k of = ap kind_code of.1
-
-pub kind_codes : (t : Shapes) (d : Datum) (k : kind.Kind) (o : Option ℕ) → o ≡ kind_code k → IsKind t d k → o ≡ code_in d
-kind_codes t d k o is of = is ∙ kind_datum t d k of
 
 pub no_negative : (z : ℤ) → z <ℤ pos 0 → None ≡ ascii_of z
 no_negative (pos n) low = absurd (omega (arith, ints))

@@ -1,5 +1,5 @@
 -- What a turn does where it calls and returns nothing.
-use Rattle.std.proofs.Common.{◌≡◌, ℕ, ◌+◌, List, [], Bool, true, false, cond, Option, Some, None, refl, sym, ◌∙◌, ap, subst}
+use Rattle.std.proofs.Common.{◌≡◌, ℕ, ◌+◌, List, [], Option, Some, None, refl, sym, ◌∙◌, ap, subst}
 use Rattle.std.proofs.lemmas.List.{append-nil}
 use Rattle.std.specs.Prelude.{Result, Ok, Err, OnOk, OnErr, IfOk, IfErr, slice_get}
 use Rattle.wy_heap.specs.Nodes.{map_of}
@@ -12,14 +12,12 @@ use Rattle.wy_code.specs.declared.instructions.Kind as kind
 use Rattle.wy_code.specs.declared.instructions.Instr.{Instr}
 use Rattle.wy_code.specs.declared.instructions.Instr.TheVariants as instr
 use Rattle.wy_code.specs.declared.routines.Code.{Code}
-use Rattle.wy_sem.specs.Expressions.{Store, slot}
-use Rattle.wy_step.specs.Step.{Frame, Caller, Effect, GoesOn, GoesTo, Calls, Returns, Fails, effect, stepped, executed, next_of, instr_at, there, as_truth}
+use Rattle.wy_sem.specs.Expressions.{Store}
+use Rattle.wy_code_spec.specs.step.Step.{Frame, Caller, Effect, GoesOn, GoesTo, Calls, Returns, Fails, effect, stepped, executed, next_of, instr_at}
 use Rattle.wy_mach.specs.declared.stop.Stop.{Stop}
 use Rattle.wy_mach.specs.declared.stop.Stop.TheVariants as stop
 use Rattle.wy_mach.specs.declared.stop.Stuck as instruction
 use Rattle.wy_mach.specs.Showing.{Shows, Leaves, WentOn, HasNone, Turns}
-use Rattle.wy_mach.specs.Operands.{truth_in, Reads}
-use Rattle.wy_mach.proofs.OperandLemmas.{truth-there}
 use Rattle.wy_mach.specs.Printed.{TookAll, TookSome, Prints, PrintsSome}
 use Rattle.wy_mach.specs.declared.machine.Machine.{Machine}
 use Rattle.wy_mach.specs.declared.machine.Turn.{Turn}
@@ -45,10 +43,6 @@ not_memory (Err e) q P is = subst (λ (x : Result (Unit {0}) Stop). IfErr x (λ 
 pub on_err : {T E : Type 0} (r : Result T E) (P Q : Type 0) → (P → Q) → OnErr r P → OnErr r Q
 on_err (Ok x) P Q f p = tt
 on_err (Err e) P Q f p = f p
-
-pub if_err : {T E : Type 0} (r : Result T E) (P Q : E → Type 0) → ((e : E) → P e → Q e) → IfErr r P → IfErr r Q
-if_err (Ok x) P Q f p = tt
-if_err (Err e) P Q f p = f e p
 
 pub all_err : {T E : Type 0} (r : Result T E) (Q : E → Type 0) → ((e : E) → Q e) → IfErr r Q
 all_err (Ok x) Q f = tt
@@ -98,33 +92,8 @@ goes_to code old before t fr callers output shows = (
   ([], sym (append-nil output), nothing_taken before [] refl),
 )
 
-pub goes_behind : (code : Code) (old : Machine) (before : Option (List ℕ)) (fr : Frame) (callers : List Caller) (output : List ℕ) → ShowsState old fr callers → Reaches (machine_at old (old.frame.at + 1)) before before output (stepped code fr callers output (GoesOn fr.registers []))
-goes_behind code old before fr callers output shows = (
-  record { frame = record { routine = shows.frame.routine; at = ap (λ (n : ℕ). n + 1) shows.frame.at; registers = shows.frame.registers }; callers = shows.callers },
-  ([], refl, nothing_taken before [] refl),
-)
-
 pub jump_steps : (code : Code) (old : Machine) (before : Option (List ℕ)) (t : ℕ) → Steps (next_by code (instr.Jump t)) old (machine_at old t) before before
 jump_steps code old before t fr callers output shows = goes_to code old before t fr callers output shows
-
--- the effect of a branch, by the truth value that is read
-branch_effect : (old : Machine) (r t : ℕ) (o : Option Bool) (fr : Frame) (callers : List Caller) → Reads old.heap old.frame.registers.items r truth_in o → ShowsState old fr callers → there (slot fr.registers r) (λ v. as_truth v (λ b. cond b (GoesOn fr.registers []) (GoesTo t))) ≡ there o (λ b. cond b (GoesOn fr.registers []) (GoesTo t))
-branch_effect old r t o fr callers reads shows =
-    truth-there (slot fr.registers r) (λ b. cond b (GoesOn fr.registers []) (GoesTo t))
-    ∙ ap (λ (x : Option Bool). there x (λ b. cond b (GoesOn fr.registers []) (GoesTo t))) (sym (reads fr.registers shows.frame.registers))
-
-pub branch_behind : (code : Code) (old : Machine) (before : Option (List ℕ)) (r t : ℕ) → Reads old.heap old.frame.registers.items r truth_in (Some true) → Steps (next_by code (instr.Branch r t)) old (machine_at old (old.frame.at + 1)) before before
-branch_behind code old before r t reads fr callers output shows =
-    subst (λ (e : Effect). Reaches (machine_at old (old.frame.at + 1)) before before output (stepped code fr callers output e)) (sym (branch_effect old r t (Some true) fr callers reads shows))
-    (goes_behind code old before fr callers output shows)
-
-pub branch_to : (code : Code) (old : Machine) (before : Option (List ℕ)) (r t : ℕ) → Reads old.heap old.frame.registers.items r truth_in (Some false) → Steps (next_by code (instr.Branch r t)) old (machine_at old t) before before
-branch_to code old before r t reads fr callers output shows =
-    subst (λ (e : Effect). Reaches (machine_at old t) before before output (stepped code fr callers output e)) (sym (branch_effect old r t (Some false) fr callers reads shows))
-    (goes_to code old before t fr callers output shows)
-
-pub branch_none : (code : Code) (old : Machine) (r t : ℕ) → Reads old.heap old.frame.registers.items r truth_in None → HasNoNext (next_by code (instr.Branch r t)) old
-branch_none code old r t reads fr callers output shows = ap (stepped code fr callers output) (branch_effect old r t None fr callers reads shows)
 
 -- ---- prints
 
@@ -261,7 +230,3 @@ has_int code old (instr.Call d f rs) ints is = tt
 has_int code old (instr.Return q) ints is = tt
 has_int code old (instr.Print x) ints is = tt
 has_int code old (instr.PrintInt x) ints is = tt
-
-pub on_any_err : {T E : Type 0} (r : Result T E) (Q : Type 0) → Q → OnErr r Q
-on_any_err (Ok x) Q q = tt
-on_any_err (Err e) Q q = q

@@ -5,7 +5,9 @@ use Rattle.std.proofs.lemmas.Int.{ints}
 use Rattle.std.proofs.lemmas.List.{set-set, get_or-set_same}
 use Rattle.std.proofs.lemmas.Bool.Decides.{nat_tests}
 use lib.IntN.{nat_abs}
+use Rattle.wy_mach.proofs.ItemLemmas.{by_where}
 use Rattle.wy_value.specs.Datum.{Datum}
+use Rattle.wy_value.specs.Seen.{data_of}
 use Rattle.wy_value.specs.declared.shapes.Shapes.{Shapes}
 use Rattle.wy_heap.specs.declared.part.Part.{Part}
 use Rattle.wy_heap.specs.declared.part.Part.TheVariants as part
@@ -22,8 +24,8 @@ use Rattle.wy_heap.proofs.RowLemmas.{restood}
 use Rattle.wy_code.specs.declared.instructions.Slot as of_code
 use Rattle.wy_code.specs.declared.instructions.Slot.TheVariants as path_step
 use Rattle.wy_sem.specs.Operations.{nat_of, Slot, ItemSlot, FieldSlot, updated}
-use Rattle.wy_sem.specs.Expressions.{Store, slot, put, data_of}
-use Rattle.wy_step.specs.Step.{Effect, Fails, there, as_number, where_so, gives, slots_of, has_path}
+use Rattle.wy_sem.specs.Expressions.{Store, slot, put}
+use Rattle.wy_code_spec.specs.step.Step.{Effect, Fails, there, as_number, where_so, gives, slots_of, has_path}
 use Rattle.wy_mach.specs.declared.stop.Stop.{Stop}
 use Rattle.wy_mach.specs.declared.stop.Stop.TheVariants.{Stuck, NoMemory}
 use Rattle.wy_mach.specs.Showing.{Shows, Leaves, WentOn, HasNone, IsStop, Puts}
@@ -53,10 +55,6 @@ there_fails (Some x) next fails = fails x
 where_fails : (b : Bool) (next : Effect) → next ≡ Fails → where_so b next ≡ Fails
 where_fails true next fails = fails
 where_fails false next fails = refl
-
-by_where : (P : Effect → Type 0) (b : Bool) (next : Effect) → P Fails → (b ≡ true → P next) → P (where_so b next)
-by_where P true next fails goes = goes refl
-by_where P false next fails goes = fails
 
 -- the effect of what is read of a register
 index_read : (h : Heap) (ps : List Part) (r : ℕ) (o : Option ℤ) (s : Store) (next : ℤ → Effect) → Reads h ps r number_in o → Shows (map_of h) s ps → there (slot s r) (λ v. as_number v next) ≡ there o next

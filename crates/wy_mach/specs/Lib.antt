@@ -22,3 +22,7 @@ pub mod Running
 -- the step on shared nodes, and turns as steps
 pub mod SharedSteps
 pub mod SharedTurns
+pub mod sharing_laws
+-- passed on to the crates above
+pub use Rattle.wy_code_spec.specs as wy_code_spec
+pub use Rattle.wy_heap.specs as wy_heap

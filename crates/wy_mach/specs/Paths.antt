@@ -13,7 +13,7 @@ use Rattle.wy_code.specs.declared.instructions.Slot as of_code
 use Rattle.wy_code.specs.declared.instructions.Slot.TheVariants as path_step
 use Rattle.wy_sem.specs.Operations.{nat_of, Slot}
 use Rattle.wy_sem.specs.Expressions.{Store}
-use Rattle.wy_step.specs.Step.{Effect, Fails, slots_of}
+use Rattle.wy_code_spec.specs.step.Step.{Effect, Fails, slots_of}
 use Rattle.wy_mach.specs.Showing.{Shows}
 use Rattle.wy_mach.specs.Operands.{number_in, Reads}
 

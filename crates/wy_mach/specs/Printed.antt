@@ -8,7 +8,7 @@ use Rattle.wy_value.specs.Datum.{Datum}
 use Rattle.wy_port.specs.Count.{Rose}
 use Rattle.wy_port.specs.Taken.{TookFront, with_taken}
 use Rattle.wy_sem.specs.Expressions.{Store}
-use Rattle.wy_step.specs.Step.{Effect, GoesOn, GoesTo, Calls, Returns, Fails}
+use Rattle.wy_code_spec.specs.step.Step.{Effect, GoesOn, GoesTo, Calls, Returns, Fails}
 use Rattle.wy_mach.specs.Showing.{Shows, HasNone}
 use Rattle.wy_mach.specs.Texts.{text_in, IsText}
 use Rattle.wy_mach.specs.declared.printing.PrintStop.{PrintStop}

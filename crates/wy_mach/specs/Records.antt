@@ -2,7 +2,7 @@
 use Rattle.std.specs.Prelude.{ℕ, List}
 use Rattle.wy_value.specs.Datum.{Datum, Record}
 use Rattle.wy_heap.specs.Slots.{joined}
-use Rattle.wy_sem.specs.Expressions.{data_of}
+use Rattle.wy_value.specs.Seen.{data_of}
 
 -- the record of these, with these names
 abbrev pub record_made : List (List ℕ) → List Datum → Datum

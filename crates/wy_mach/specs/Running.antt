@@ -2,6 +2,7 @@
 use Rattle.std.specs.Prelude.{◌≡◌, ◌≤◌, vec_capacity, ℕ, ◌+◌, ◌-◌, List, [], ◌∷◌, ◌++◌, Bool, true, false, Option, Some, None, Result, Ok, Err, Vec, MatchOption, slice_get, slice_set, length, ⊤}
 use Rattle.std.specs.declared.alloc.Global.{Global}
 use Rattle.wy_value.specs.Datum.{Datum}
+use Rattle.wy_value.specs.Seen.{data_of}
 use Rattle.wy_value.specs.Shown.{shown}
 use Rattle.wy_heap.specs.declared.part.Part.{Part}
 use Rattle.wy_heap.specs.declared.heap.Heap.{Heap}
@@ -17,8 +18,7 @@ use Rattle.wy_code.specs.declared.routines.Code.{Code}
 use Rattle.wy_mach.specs.declared.stop.Stop.{Stop}
 use Rattle.wy_mach.specs.declared.stop.Stop.TheVariants as stop
 use Rattle.wy_mach.specs.declared.stop.Stuck as instruction
-use Rattle.wy_step.specs.Step.{Frame, Caller, State, Runs, Ended, Stuck, step, stepped, effect, instr_at, after, start, holding, empties}
-use Rattle.wy_sem.specs.Expressions.{data_of}
+use Rattle.wy_code_spec.specs.step.Step.{Frame, Caller, State, Runs, Ended, Stuck, step, stepped, effect, instr_at, after, start, holding, empties}
 use Rattle.wy_mach.specs.Showing.{Shows, IsNoInt}
 use Rattle.wy_mach.specs.declared.machine.Machine.{Machine}
 use Rattle.wy_mach.specs.declared.machine.Turn.{Turn}

@@ -1,5 +1,6 @@
 -- The step on shared nodes. Registers hold scalars and keys, and a map has a node for each key: its form, and parts that are scalars and keys. How many holders a key has is counted anew, from the registers of all frames and the slots of all nodes. An instruction makes, writes and copies nodes as is said here, and what has no holder left is gone at once. Which scalar comes where one is computed is said by the step on values.
 use Rattle.std.specs.Prelude.{◌≡◌, ◌⊎◌, ◌↔◌, ℕ, zero, suc, ◌+◌, ◌-◌, ◌≤◌, min, ℤ, pos, int_le, List, [], ◌∷◌, ◌++◌, length, replicate, true, false, Option, Some, None, IsSome, slice_set, slice_get, ⊤}
+use Rattle.wy_value.specs.Seen.{data_of}
 use Rattle.wy_value.specs.declared.shapes.Shapes.{Shapes}
 use Rattle.wy_value.specs.Datum.{Datum}
 use Rattle.wy_heap.specs.declared.part.Part.{Part}
@@ -21,8 +22,7 @@ use Rattle.wy_code.specs.declared.instructions.Instr.TheVariants as instr
 use Rattle.wy_code.specs.declared.routines.Routine.{Routine}
 use Rattle.wy_code.specs.declared.routines.Code.{Code}
 use Rattle.wy_sem.specs.Operations.{nat_of}
-use Rattle.wy_sem.specs.Expressions.{data_of}
-use Rattle.wy_step.specs.Step.{instr_at}
+use Rattle.wy_code_spec.specs.step.Step.{instr_at}
 use Rattle.wy_mach.specs.Showing.{scalar_kind}
 use Rattle.wy_mach.specs.Taking.{taken, emptied, nulls}
 use Rattle.wy_mach.specs.Sharing.{part_in, shape_form}

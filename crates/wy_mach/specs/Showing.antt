@@ -13,7 +13,7 @@ use Rattle.wy_value.specs.Numbers.{is_int}
 use Rattle.wy_code.specs.declared.instructions.Scalar.{Scalar}
 use Rattle.wy_code.specs.declared.instructions.Scalar.TheVariants as scalar
 use Rattle.wy_sem.specs.Expressions.{Store}
-use Rattle.wy_step.specs.Step.{Effect, GoesOn, GoesTo, Calls, Returns, Fails}
+use Rattle.wy_code_spec.specs.step.Step.{Effect, GoesOn, GoesTo, Calls, Returns, Fails}
 use Rattle.wy_mach.specs.declared.stop.Stop.{Stop}
 use Rattle.wy_mach.specs.declared.stop.Stop.TheVariants.{Stuck, NoMemory}
 

@@ -11,7 +11,7 @@ use Rattle.wy_code.specs.declared.instructions.Slot.{Slot}
 use Rattle.wy_code.specs.declared.instructions.Instr.TheVariants.{Const, Put}
 use Rattle.wy_code.specs.declared.routines.Routine.{Routine}
 use Rattle.wy_code.specs.declared.routines.Code.{Code}
-use Rattle.wy_step.specs.Step.{Frame, Caller, instr_at}
+use Rattle.wy_code_spec.specs.step.Step.{Frame, Caller, instr_at}
 use Rattle.wy_mach.specs.Showing.{Shows, IsNoInt}
 use Rattle.wy_mach.specs.declared.frames.Frame as of_frames
 use Rattle.wy_mach.specs.declared.frames.Caller as of_callers

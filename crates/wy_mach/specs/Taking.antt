@@ -5,10 +5,11 @@ use Rattle.wy_heap.specs.declared.heap.Heap.{Heap}
 use Rattle.wy_heap.specs.Nodes.{map_of}
 use Rattle.wy_heap.specs.Meaning.{MeanAll}
 use Rattle.wy_heap.specs.Standing.{Stands, Acts}
-use Rattle.wy_sem.specs.Expressions.{Store, put, data_of}
+use Rattle.wy_sem.specs.Expressions.{Store, put}
 use Rattle.wy_mach.specs.Showing.{Shows}
 use Rattle.wy_heap.specs.declared.part.Part.{Part}
 use Rattle.wy_heap.specs.declared.part.Part.TheVariants.{Null}
+use Rattle.wy_value.specs.Seen.{data_of}
 
 -- what these registers hold, each taken before the next
 abbrev pub taken : List Part → List ℕ → List Part

@@ -4,7 +4,7 @@ ghost use Rattle.wy_value.specs.Datum.{Datum};
 ghost use Rattle.wy_heap.specs.Nodes.{Map};
 ghost use Rattle.wy_heap.specs.Meaning.{MeanAll};
 ghost use Rattle.wy_sem.specs.Expressions.{data_of};
-ghost use Rattle.wy_step.specs.Step.{holding, empties};
+ghost use Rattle.wy_code_spec.specs.step.Step.{holding, empties};
 ghost use Rattle.wy_mach.specs.Showing.{Shows};
 ghost use Rattle.wy_mach.specs.Taking.{nulls};
 

@@ -7,7 +7,7 @@ ghost use Rattle.wy_heap.specs.declared.part.Part.TheVariants.{Null};
 ghost use Rattle.wy_heap.specs.Nodes.{map_of};
 ghost use Rattle.wy_heap.specs.Standing.{SameTable};
 ghost use Rattle.wy_code.specs.declared.instructions.Instr.{Instr};
-ghost use Rattle.wy_step.specs.Step.{effect};
+ghost use Rattle.wy_code_spec.specs.step.Step.{effect};
 ghost use Rattle.wy_sem.specs.Expressions.{Store, slot};
 ghost use Rattle.wy_mach.specs.Showing.{Shows, WentOn, IsStop, Turns, AreRegisters};
 ghost use Rattle.wy_mach.specs.Sharing.{PutsFilled, CountsBeside, part_in};

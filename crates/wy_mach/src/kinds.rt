@@ -6,7 +6,7 @@ ghost use Rattle.wy_heap.specs.Nodes.{map_of};
 ghost use Rattle.wy_heap.specs.Extending.{Extends};
 ghost use Rattle.wy_heap.specs.Standing.{SameTable};
 ghost use Rattle.wy_code.specs.declared.instructions.Instr.{Instr};
-ghost use Rattle.wy_step.specs.Step.{effect};
+ghost use Rattle.wy_code_spec.specs.step.Step.{effect};
 ghost use Rattle.wy_mach.specs.Showing.{WentOn, HasNone, Turns, AreRegisters};
 ghost use Rattle.wy_mach.specs.Sharing.{PutsScalar};
 ghost use Rattle.wy_mach.specs.Kinds.{is_null_kind, is_bool_kind, is_int_kind, is_array_kind, is_shape_kind, kind_told};

@@ -52,6 +52,7 @@ mod printing;
 mod records;
 mod registers;
 mod runs;
+pub mod sharing_laws;
 mod starting;
 mod stop;
 mod texts;

@@ -6,7 +6,7 @@ ghost use Rattle.wy_heap.specs.Nodes.{map_of, list_form};
 ghost use Rattle.wy_heap.specs.Standing.{Stands, AreHeld, Acts, SameTable};
 ghost use Rattle.wy_heap.specs.Changing.{Lasts};
 ghost use Rattle.wy_code.specs.declared.instructions.Instr.{Instr};
-ghost use Rattle.wy_step.specs.Step.{effect};
+ghost use Rattle.wy_code_spec.specs.step.Step.{effect};
 ghost use Rattle.wy_mach.specs.Showing.{WentOn, IsStop, Turns, AreRegisters};
 ghost use Rattle.wy_mach.specs.Taking.{taken, emptied, AreWithin, AreTaken, TakenTurns, GivesMade, array_made};
 ghost use Rattle.wy_mach.specs.Sharing.{PutsNew};

@@ -8,7 +8,7 @@ ghost use Rattle.wy_heap.specs.Standing.{Stands, Acts, SameTable};
 ghost use Rattle.wy_heap.specs.Parts.{IsScalar, IsBelow, scalar_part};
 ghost use Rattle.wy_heap.specs.Changing.{Lasts};
 ghost use Rattle.wy_code.specs.declared.instructions.Instr.{Instr};
-ghost use Rattle.wy_step.specs.Step.{effect};
+ghost use Rattle.wy_code_spec.specs.step.Step.{effect};
 ghost use Rattle.wy_mach.specs.Showing.{WentOn, HasNone, IsStop, Turns, AreRegisters, IsNoInt, scalar_kind};
 ghost use Rattle.wy_mach.specs.Taking.{emptied};
 ghost use Rattle.wy_mach.specs.Sharing.{PutsIn, PutsSecond, CountsBeside, part_in};

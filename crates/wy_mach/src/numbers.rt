@@ -6,7 +6,7 @@ ghost use Rattle.wy_heap.specs.declared.part.Part.{Part};
 ghost use Rattle.wy_heap.specs.Nodes.{map_of};
 ghost use Rattle.wy_heap.specs.Standing.{SameTable};
 ghost use Rattle.wy_code.specs.declared.instructions.Instr.{Instr};
-ghost use Rattle.wy_step.specs.Step.{Effect, effect, there, where_so, computes, compares};
+ghost use Rattle.wy_code_spec.specs.step.Step.{Effect, effect, there, where_so, computes, compares};
 ghost use Rattle.wy_mach.specs.Showing.{WentOn, HasNone, Turns, AreRegisters};
 ghost use Rattle.wy_mach.specs.Sharing.{PutsScalar};
 

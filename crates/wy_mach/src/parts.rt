@@ -12,7 +12,7 @@ ghost use Rattle.wy_heap.specs.Standing.{Stands, AreHeld, Acts, SameTable, IsAsB
 ghost use Rattle.wy_heap.specs.Changing.{More};
 ghost use Rattle.wy_heap.specs.Copying.{CopiesAsMany};
 ghost use Rattle.wy_code.specs.declared.instructions.Instr.{Instr};
-ghost use Rattle.wy_step.specs.Step.{effect};
+ghost use Rattle.wy_code_spec.specs.step.Step.{effect};
 ghost use Rattle.wy_mach.specs.Showing.{WentOn, IsStop, Turns, AreRegisters};
 ghost use Rattle.wy_mach.specs.Sharing.{PutsSecond, CountsBeside, part_in};
 ghost use Rattle.wy_mach.specs.Parts.{GivesPart, LacksPart};

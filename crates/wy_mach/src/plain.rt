@@ -4,7 +4,7 @@ ghost use Rattle.wy_value.specs.Shapes.{IsShapes};
 ghost use Rattle.wy_heap.specs.Nodes.{map_of};
 ghost use Rattle.wy_heap.specs.Extending.{Extends};
 ghost use Rattle.wy_heap.specs.Standing.{SameTable};
-ghost use Rattle.wy_step.specs.Step.{effect};
+ghost use Rattle.wy_code_spec.specs.step.Step.{effect};
 ghost use Rattle.wy_mach.specs.Showing.{WentOn, HasNone, IsStop, Turns, AreRegisters};
 ghost use Rattle.wy_mach.specs.Running.{IsPlain, IsMoving, HasInt, MayTakeMemory, stop_result};
 ghost use Rattle.wy_mach.specs.SharedTurns.{SharesIn, WantsIn};

@@ -7,7 +7,7 @@ ghost use Rattle.wy_heap.specs.Standing.{AreHeld};
 ghost use Rattle.wy_port.specs.Count.{Rose};
 ghost use Rattle.wy_port.specs.Taken.{TookFront, with_taken};
 ghost use Rattle.wy_code.specs.declared.instructions.Instr.{Instr};
-ghost use Rattle.wy_step.specs.Step.{effect};
+ghost use Rattle.wy_code_spec.specs.step.Step.{effect};
 ghost use Rattle.wy_mach.specs.Showing.{AreRegisters};
 ghost use Rattle.wy_mach.specs.Texts.{IsText, HasText};
 ghost use Rattle.wy_mach.specs.Printed.{Prints, IsPrintStop, IsTextStop};

@@ -4,7 +4,7 @@ ghost use Rattle.wy_value.specs.Seen.{seen, seen_items};
 ghost use Rattle.wy_value.specs.Shapes.{IsShapes};
 ghost use Rattle.wy_value.specs.Values.{AreValues};
 ghost use Rattle.wy_code.specs.declared.routines.Routine.{Routine};
-ghost use Rattle.wy_step.specs.Step.{State, after};
+ghost use Rattle.wy_code_spec.specs.step.Step.{State, after};
 ghost use Rattle.wy_mach.specs.States.{IsMachine, HasInts};
 ghost use Rattle.wy_mach.specs.Running.{HasSteps, LacksNone, Ran, PrintsFront, ShowsFirst, state_behind};
 ghost use Rattle.wy_mach.specs.SharedTurns.{DoneShared, RanShared};

@@ -9,7 +9,7 @@ ghost use Rattle.wy_heap.specs.Extending.{Extends};
 ghost use Rattle.wy_heap.specs.Importing.{OnlyOnes};
 ghost use Rattle.wy_heap.specs.Standing.{Stands};
 ghost use Rattle.wy_code.specs.declared.routines.Routine.{Routine};
-ghost use Rattle.wy_step.specs.Step.{holding, empties};
+ghost use Rattle.wy_code_spec.specs.step.Step.{holding, empties};
 ghost use Rattle.wy_mach.specs.Showing.{Shows};
 ghost use Rattle.wy_mach.specs.States.{IsMachine, HasInts, PathsFit, RoutinesPathsFit, BodyPathsFit, InstrPathFits};
 ghost use Rattle.wy_mach.specs.Running.{Starts};

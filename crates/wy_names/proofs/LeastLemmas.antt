@@ -1,23 +1,16 @@
 -- Faults noted one after the other leave the one that goes before all others.
-use Rattle.std.proofs.Common.{◌≡◌, ◌<◌, ◌⊎◌, inl, inr, ℕ, zero, suc, Bool, true, false, ◌&&◌, ◌||◌, ◌==◌, cond, List, [], ◌∷◌, ◌++◌, Option, Some, None, refl, sym, ap, subst, ◌∙◌, arith, append_assoc}
+use Rattle.std.proofs.Common.{◌≡◌, ◌<◌, ◌⊎◌, inl, inr, ℕ, zero, suc, Bool, true, false, ◌&&◌, ◌==◌, cond, List, [], ◌∷◌, ◌++◌, Option, Some, None, refl, sym, ap, subst, ◌∙◌, arith, append_assoc}
 use Rattle.std.specs.List.{slice_get}
 use Rattle.std.specs.Bool.{nat_lt}
 use Rattle.std.proofs.lemmas.Bool.{eqb-true, eq-eqb, ltb-true, lt-ltb}
-use Rattle.wy_scope.specs.declared.fault.Fault.{Fault}
-use Rattle.wy_scope.specs.Faults.{Found, rank, goes_before, noted}
+use Rattle.wy_lemmas.proofs.Choices.{false_of as false_by, both_parts as second, or_cases as one_of, or_left, both_true, or_right}
+use Rattle.wy_names_scope.specs.declared.fault.Fault.{Fault}
+use Rattle.wy_names_scope.specs.Faults.{Found, rank, goes_before, noted}
 use Rattle.wy_names.specs.LeastFaults.{all_noted, IsLeast, Gives}
 
 -- by the places, and then by the ranks
 record Before (a f : Fault) : Type 0 where
   before : (a.at < f.at) ⊎ ((a.at ≡ f.at) × (rank a.cause < rank f.cause))
-
-second : (a b : Bool) → (a && b) ≡ true → (a ≡ true) × (b ≡ true)
-second true b h = (refl, h)
-second false b h = absurd (cc)
-
-one_of : (a b : Bool) → (a || b) ≡ true → (a ≡ true) ⊎ (b ≡ true)
-one_of true b h = inl refl
-one_of false b h = inr h
 
 before_of : (a f : Fault) → goes_before a.at a.cause f ≡ true → Before a f
 before_of a f h = by (one_of (nat_lt a.at f.at) (a.at == f.at && nat_lt (rank a.cause) (rank f.cause)) h)
@@ -27,18 +20,6 @@ before_of a f h = by (one_of (nat_lt a.at f.at) (a.at == f.at && nat_lt (rank a.
     by (inr same) =
         let parts = second (a.at == f.at) (nat_lt (rank a.cause) (rank f.cause)) same in
         record { before = inr (eqb-true a.at f.at parts.0, ltb-true (rank a.cause) (rank f.cause) parts.1) }
-
-or_left : (a b : Bool) → a ≡ true → (a || b) ≡ true
-or_left true b h = refl
-or_left false b h = absurd (cc)
-
-or_right : (a b : Bool) → b ≡ true → (a || b) ≡ true
-or_right true b h = refl
-or_right false b h = h
-
-both_true : (a b : Bool) → a ≡ true → b ≡ true → (a && b) ≡ true
-both_true true b h k = k
-both_true false b h k = absurd (cc)
 
 of_before : (a f : Fault) → Before a f → goes_before a.at a.cause f ≡ true
 of_before a f b = by b.before
@@ -67,10 +48,6 @@ never_itself f b = by b.before
     by : (f.at < f.at) ⊎ ((f.at ≡ f.at) × (rank f.cause < rank f.cause)) → ⊥
     by (inl p) = omega arith
     by (inr p) = let less : rank f.cause < rank f.cause = p.1 in omega arith
-
-false_by : (b : Bool) → (b ≡ true → ⊥) → b ≡ false
-false_by true h = absurd (h refl)
-false_by false h = refl
 
 none_itself : (f : Fault) → goes_before f.at f.cause f ≡ false
 none_itself f = false_by (goes_before f.at f.cause f) (λ (h : goes_before f.at f.cause f ≡ true). never_itself f (before_of f f h))

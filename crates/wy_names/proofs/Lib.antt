@@ -1,4 +1,3 @@
 -- the least fault is left
 pub mod LeastLemmas
--- what the passes find, put together
-pub mod NamedLemmas
+pub mod resolved_lemmas

@@ -1,7 +1,7 @@
 -- Faults noted one after the other leave the one that goes before all others.
 use Rattle.std.specs.Prelude.{◌≡◌, ℕ, false, List, [], ◌∷◌, Option, Some, None, slice_get}
-use Rattle.wy_scope.specs.declared.fault.Fault.{Fault}
-use Rattle.wy_scope.specs.Faults.{Found, goes_before, noted}
+use Rattle.wy_names_scope.specs.declared.fault.Fault.{Fault}
+use Rattle.wy_names_scope.specs.Faults.{Found, goes_before, noted}
 
 -- with these faults noted
 abbrev pub all_noted : Found → List Fault → Found

@@ -1,8 +1,8 @@
 -- A fault by its cause.
 use Rattle.std.specs.Prelude.{ℕ}
-use Rattle.wy_scope.specs.declared.fault.Cause.{Cause}
-use Rattle.wy_scope.specs.declared.fault.Cause.TheVariants as cause
-use Rattle.wy_scope.specs.declared.fault.Fault.{Fault}
+use Rattle.wy_names_scope.specs.declared.fault.Cause.{Cause}
+use Rattle.wy_names_scope.specs.declared.fault.Cause.TheVariants as cause
+use Rattle.wy_names_scope.specs.declared.fault.Fault.{Fault}
 use Rattle.wy_names.specs.declared.name_fault.NameFault.{NameFault}
 use Rattle.wy_names.specs.declared.name_fault.NameFault.TheVariants as name_fault
 

@@ -4,20 +4,20 @@ use Rattle.wy_ast.specs.SurfaceTree.{Decl}
 use Rattle.wy_core.specs.CoreTree as tree
 use Rattle.wy_core.specs.CoreSeen.{seen_core}
 use Rattle.wy_core.specs.declared.declarations.Core.{Core}
-use Rattle.wy_scope.specs.Declarations.{declared}
-use Rattle.wy_scope.specs.declared.fault.Fault.{Fault}
-use Rattle.wy_scope.specs.Faults.{Found}
-use Rattle.wy_scope.specs.Scope.{Scope}
-use Rattle.wy_recursion.specs.DeclNames as bind
-use Rattle.wy_recursion.specs.Uses.{Edges}
-use Rattle.wy_recursion.specs.DeclUses.{edges_of}
-use Rattle.wy_recursion.specs.Recursion.{NotesRecursion}
-use Rattle.wy_recursion.specs.Endings.{IsOrder}
-use Rattle.wy_expand.specs.Faults as expand
-use Rattle.wy_expand.specs.Summaries.{summaries}
-use Rattle.wy_expand.specs.declared.measure.Expansion.{Expansion}
-use Rattle.wy_lower.specs.Templates.{templates}
-use Rattle.wy_lower.specs.DeclsLowered as lower
+use Rattle.wy_names_scope.specs.Declarations.{declared}
+use Rattle.wy_names_scope.specs.declared.fault.Fault.{Fault}
+use Rattle.wy_names_scope.specs.Faults.{Found}
+use Rattle.wy_names_scope.specs.Scope.{Scope}
+use Rattle.wy_names_recursion.specs.DeclNames as bind
+use Rattle.wy_names_recursion.specs.Uses.{Edges}
+use Rattle.wy_names_recursion.specs.DeclUses.{edges_of}
+use Rattle.wy_names_recursion.specs.Recursion.{NotesRecursion}
+use Rattle.wy_names_recursion.specs.Endings.{IsOrder}
+use Rattle.wy_names_expand.specs.Faults as expand
+use Rattle.wy_names_expand.specs.Summaries.{summaries}
+use Rattle.wy_names_expand.specs.declared.measure.Expansion.{Expansion}
+use Rattle.wy_names_lower.specs.Templates.{templates}
+use Rattle.wy_names_lower.specs.DeclsLowered as lower
 use Rattle.wy_names.specs.NameFaults.{fault_named}
 use Rattle.wy_names.specs.declared.name_fault.NameFault.{NameFault}
 use Rattle.wy_names.specs.declared.name_fault.NameFault.TheVariants as name_fault

@@ -1,6 +1,6 @@
 //! Which of several faults is given, as a law.
 ghost use Rattle.std.specs.Prelude.{List, None};
-ghost use Rattle.wy_scope.specs.declared.fault.Fault.{Fault as SomeFault};
+ghost use Rattle.wy_names_scope.specs.declared.fault.Fault.{Fault as SomeFault};
 ghost use Rattle.wy_names.specs.LeastFaults as spec;
 
 /// Of faults noted one after the other, in whatever order, the one left stands at the least place, of several

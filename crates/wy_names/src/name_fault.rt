@@ -3,7 +3,7 @@ ghost use Rattle.std.specs.Prelude.{◌≡◌};
 ghost use Rattle.wy_names.specs.NameFaults as spec;
 
 use std::alloc::AllocError;
-use wy_scope::{Cause, Fault};
+use wy_names_scope::{Cause, Fault};
 
 /// Why a program is refused, with the byte offset where.
 #[derive(Clone, Copy, Debug, PartialEq, Eq)]

@@ -8,11 +8,11 @@ use crate::name_fault::{NameFault, fault_named};
 use std::alloc::{AllocError, Global};
 use wy_ast::{Decl, Program};
 use wy_core::Core;
-use wy_expand::{Expansion, in_decls, summaries};
 use wy_items::Items;
-use wy_lower::{core_of, templates_of};
-use wy_recursion::{bind, edges_of, noted_recursion, order_of};
-use wy_scope::{Fault, Table, declare};
+use wy_names_expand::{Expansion, in_decls, summaries};
+use wy_names_lower::{core_of, templates_of};
+use wy_names_recursion::{bind, edges_of, noted_recursion, order_of};
+use wy_names_scope::{Fault, Table, declare};
 
 /// The core of a program, or the fault at the least place, of several at one place the first of
 /// `NameFault`. Imports are not looked at: what they bring in is among the declarations of a program that

@@ -2,27 +2,27 @@
 use Rattle.std.proofs.Common.{ℕ, zero, suc, true}
 use Rattle.wy_reading.specs.Mode.{Mode}
 use Rattle.wy_reading.specs.Reader.{◌>>=◌}
-use Rattle.wy_grammar.specs.declared.fault.Kind.TheVariants.{Deep}
-use Rattle.wy_grammar.specs.declared.sort.Class.TheVariants as class
-use Rattle.wy_grammar.specs.Sorts as t
-use Rattle.wy_grammar.specs.Sorts.{has, is}
-use Rattle.wy_grammar.specs.Steps.{Q, mark}
-use Rattle.wy_grammar.specs.Trees.{none}
-use Rattle.wy_grammar.specs.ExprGrammar.{Args}
-use Rattle.wy_grammar.specs.ExprReading.{readers, sum}
+use Rattle.wy_parse_grammar.specs.declared.fault.Kind.TheVariants.{Deep}
+use Rattle.wy_parse_grammar.specs.declared.sort.Class.TheVariants as class
+use Rattle.wy_parse_grammar.specs.Sorts as t
+use Rattle.wy_parse_grammar.specs.Sorts.{has, is}
+use Rattle.wy_parse_grammar.specs.Steps.{Q, mark}
+use Rattle.wy_parse_grammar.specs.Trees.{none}
+use Rattle.wy_parse_grammar.specs.ExprGrammar.{Args}
+use Rattle.wy_parse_grammar.specs.ExprReading.{readers, sum}
 use Rattle.wy_parse.specs.StmtTrees.{S, Stmts, Cases}
-use Rattle.wy_grammar.specs.LabelReading.{labels}
+use Rattle.wy_parse_grammar.specs.LabelReading.{labels}
 use Rattle.wy_parse.specs.StmtReading as stmts
 use Rattle.wy_parse.specs.BlockGrammar.{CaseList}
 use Rattle.wy_parse.specs.BlockReading as read
 use Rattle.wy_parse.specs.BlockReading.{Nested}
 use Rattle.wy_parse.specs.OpenBlocks as blocks
 use Rattle.wy_parse.proofs.Shrinking.{Shrinks, Eats, eats-shrinks, pure-shrinks, then-shrinks, then-eats, branch-shrinks, branch-eats, refused-eats, unless-eats, while-shrinks, exact-shrinks, exact-eats, mark-eats, mark-shrinks, name-shrinks}
-use Rattle.wy_grammar.proofs.OperatorsExact.{sum-exact}
-use Rattle.wy_grammar.proofs.ExprLevels.{expr-exact, unary-exact, unary_read}
-use Rattle.wy_grammar.specs.ExprGrammar.{Unary}
+use Rattle.wy_parse_grammar.proofs.OperatorsExact.{sum-exact}
+use Rattle.wy_parse_grammar.proofs.ExprLevels.{expr-exact, unary-exact, unary_read}
+use Rattle.wy_parse_grammar.specs.ExprGrammar.{Unary}
 use Rattle.wy_parse.proofs.StmtsExact.{word_stmt-exact, return_stmt-exact, assert_stmt-exact, declare_stmt-exact, named_stmt-exact, wheres-exact}
-use Rattle.wy_grammar.proofs.LabelsExact.{labels-exact}
+use Rattle.wy_parse_grammar.proofs.LabelsExact.{labels-exact}
 
 -- with so many levels, and each check made
 abbrev at_level : ℕ → Mode

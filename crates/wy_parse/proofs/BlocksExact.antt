@@ -7,24 +7,24 @@ use Rattle.wy_reading.proofs.Sequence.{sequence}
 use Rattle.wy_reading.proofs.Choice.{choice}
 use Rattle.wy_lex.specs.declared.token.Token.{Token}
 use Rattle.wy_lex.specs.declared.token.TokenKind.TheVariants as k
-use Rattle.wy_grammar.specs.Sorts as t
-use Rattle.wy_grammar.specs.Sorts.{is, has, members}
-use Rattle.wy_grammar.specs.Steps.{R, Q}
-use Rattle.wy_grammar.specs.Trees as parts
-use Rattle.wy_grammar.specs.ExprGrammar.{SumIn, Unary}
+use Rattle.wy_parse_grammar.specs.Sorts as t
+use Rattle.wy_parse_grammar.specs.Sorts.{is, has, members}
+use Rattle.wy_parse_grammar.specs.Steps.{R, Q}
+use Rattle.wy_parse_grammar.specs.Trees as parts
+use Rattle.wy_parse_grammar.specs.ExprGrammar.{SumIn, Unary}
 use Rattle.wy_parse.specs.StmtTrees as trees
 use Rattle.wy_parse.specs.StmtTrees.{S, Stmts}
-use Rattle.wy_grammar.specs.declared.measured.Measured.TheVariants.{Low}
+use Rattle.wy_parse_grammar.specs.declared.measured.Measured.TheVariants.{Low}
 use Rattle.wy_parse.specs.BlockGrammar as rule
 use Rattle.wy_parse.specs.BlockReading as read
-use Rattle.wy_grammar.proofs.TokenLemmas.{some, at, at_other, fewer}
-use Rattle.wy_grammar.proofs.StepsExact.{mark-exact, name-exact}
-use Rattle.wy_grammar.proofs.LabelsExact.{labels-exact}
-use Rattle.wy_grammar.proofs.OperatorsExact.{after_sum, after_expr, After, sum-exact}
-use Rattle.wy_grammar.proofs.ExprLevels.{expr-exact, unary-exact, unary_read}
+use Rattle.wy_parse_grammar.proofs.TokenLemmas.{some, at, at_other, fewer}
+use Rattle.wy_parse_grammar.proofs.StepsExact.{mark-exact, name-exact}
+use Rattle.wy_parse_grammar.proofs.LabelsExact.{labels-exact}
+use Rattle.wy_parse_grammar.proofs.OperatorsExact.{after_sum, after_expr, After, sum-exact}
+use Rattle.wy_parse_grammar.proofs.ExprLevels.{expr-exact, unary-exact, unary_read}
 use Rattle.wy_parse.proofs.StmtsExact.{wheres-exact}
 
-abbrev after_clauses : List ℕ
+abbrev pub after_clauses : List ℕ
 after_clauses = t.WHERE ∷ after_expr
 
 -- what stands behind an expression, where clauses may
@@ -139,5 +139,3 @@ module _ (n : Mode) (B : R Stmts) (b : Mode → Q Stmts) (exact : (F : List Toke
 pub last_out-exact : (n : Mode) (cs : rule.CaseList) → Exact n (rule.LastOut cs) (λ m. read.last_out cs) Any (Passes (is t.BLOCK_OUT))
 unfolding read.last_out rule.LastOut
 last_out-exact n cs = sequence (mark-exact {F = Any} t.BLOCK_OUT (some k.BlockOut) refl) (λ r. nothing (parts.both cs (Low None 0))) (λ i h. tt)
-
-pub ruleset blocks_exact = (last_out-exact)

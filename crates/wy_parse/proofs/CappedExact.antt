@@ -16,17 +16,17 @@ use Rattle.wy_reading.proofs.Bars.{fenced-strict}
 use Rattle.wy_reading.proofs.Turns.{loop-halts}
 use Rattle.wy_lex.specs.declared.token.Token.{Token}
 use Rattle.wy_lex.specs.declared.token.TokenKind.TheVariants as k
-use Rattle.wy_grammar.specs.declared.fault.Kind.{Kind}
-use Rattle.wy_grammar.specs.declared.fault.Kind.TheVariants.{TooMany}
-use Rattle.wy_grammar.specs.declared.sort.Class.TheVariants as class
-use Rattle.wy_grammar.specs.Sorts as t
-use Rattle.wy_grammar.specs.Sorts.{is, has, members}
-use Rattle.wy_grammar.specs.Steps.{R, Q}
-use Rattle.wy_grammar.specs.Trees as parts
+use Rattle.wy_parse_grammar.specs.declared.fault.Kind.{Kind}
+use Rattle.wy_parse_grammar.specs.declared.fault.Kind.TheVariants.{TooMany}
+use Rattle.wy_parse_grammar.specs.declared.sort.Class.TheVariants as class
+use Rattle.wy_parse_grammar.specs.Sorts as t
+use Rattle.wy_parse_grammar.specs.Sorts.{is, has, members}
+use Rattle.wy_parse_grammar.specs.Steps.{R, Q}
+use Rattle.wy_parse_grammar.specs.Trees as parts
 use Rattle.wy_parse.specs.DeclTrees.{D}
 use Rattle.wy_parse.specs.ProgramGrammar.{Counted, most, has_place, Capped, NextDecl}
 use Rattle.wy_parse.specs.ProgramReading.{capped, next_decl}
-use Rattle.wy_grammar.proofs.TokenLemmas.{some, at}
+use Rattle.wy_parse_grammar.proofs.TokenLemmas.{some, at}
 
 -- behind declarations stands the end
 abbrev pub AfterDecls : List Token → Type 0

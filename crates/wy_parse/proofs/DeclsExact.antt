@@ -14,14 +14,14 @@ use Rattle.wy_reading.proofs.Bars.{unless-exact}
 use Rattle.wy_ast.specs.declared.types.TyKind.TheVariants as ty
 use Rattle.wy_lex.specs.declared.token.Token.{Token}
 use Rattle.wy_lex.specs.declared.token.TokenKind.TheVariants as k
-use Rattle.wy_grammar.specs.declared.measured.Measured.TheVariants.{Low}
-use Rattle.wy_grammar.specs.declared.sort.Class.TheVariants as class
-use Rattle.wy_grammar.specs.Sorts as t
-use Rattle.wy_grammar.specs.Sorts.{is, has, members}
-use Rattle.wy_grammar.specs.Steps.{R, Q, inside}
-use Rattle.wy_grammar.specs.Trees as parts
-use Rattle.wy_grammar.specs.TypeGrammar.{Type_}
-use Rattle.wy_grammar.specs.TypeReading.{type_term}
+use Rattle.wy_parse_grammar.specs.declared.measured.Measured.TheVariants.{Low}
+use Rattle.wy_parse_grammar.specs.declared.sort.Class.TheVariants as class
+use Rattle.wy_parse_grammar.specs.Sorts as t
+use Rattle.wy_parse_grammar.specs.Sorts.{is, has, members}
+use Rattle.wy_parse_grammar.specs.Steps.{R, Q, inside}
+use Rattle.wy_parse_grammar.specs.Trees as parts
+use Rattle.wy_parse_grammar.specs.TypeGrammar.{Type_}
+use Rattle.wy_parse_grammar.specs.TypeReading.{type_term}
 use Rattle.wy_parse.specs.StmtTrees.{Stmts}
 use Rattle.wy_parse.specs.StmtGrammar as stmts
 use Rattle.wy_parse.specs.StmtReading as reads
@@ -29,27 +29,20 @@ use Rattle.wy_parse.specs.DeclTrees as trees
 use Rattle.wy_parse.specs.DeclTrees.{Params, Clauses, Contract, D}
 use Rattle.wy_parse.specs.ProgramGrammar as rule
 use Rattle.wy_parse.specs.ProgramReading as read
-use Rattle.wy_grammar.proofs.TokenLemmas.{among_these, some, at, at_other, no, one_out, fewer, apart, member, wider, choice_of}
-use Rattle.wy_grammar.proofs.StepsExact.{mark-exact, name-exact}
-use Rattle.wy_grammar.proofs.InsideExact.{inside-exact}
-use Rattle.wy_grammar.proofs.TypesExact.{type-exact, type_rest-exact, type-null, joins_type, AfterType, BeginsType}
-use Rattle.wy_grammar.proofs.OperatorsExact.{after_expr, After}
-use Rattle.wy_grammar.proofs.ExprLevels.{expr-exact}
+use Rattle.wy_parse_grammar.proofs.TokenLemmas.{among_these, some, at, at_other, no, one_out, fewer, apart, member, wider, choice_of}
+use Rattle.wy_parse_grammar.proofs.StepsExact.{mark-exact, name-exact}
+use Rattle.wy_parse_grammar.proofs.InsideExact.{inside-exact}
+use Rattle.wy_parse_grammar.proofs.TypesExact.{type-exact, type_rest-exact, type-null, joins_type, AfterType, BeginsType, null}
+use Rattle.wy_parse_grammar.proofs.OperatorsExact.{after_expr, After}
+use Rattle.wy_parse_grammar.proofs.ExprLevels.{expr-exact}
 use Rattle.wy_parse.proofs.StmtsExact.{where_clause-exact, wheres-exact}
-use Rattle.wy_parse.proofs.BlocksExact.{BeginsBlock}
-
--- what may not follow clauses, what stands behind a result, and what may not follow one
-abbrev after_clauses : List ℕ
-after_clauses = t.WHERE ∷ after_expr
+use Rattle.wy_parse.proofs.BlocksExact.{BeginsBlock, after_clauses}
 
 abbrev contract_begins : List ℕ
 contract_begins = t.COLON ∷ t.REQUIRES ∷ t.ENSURES ∷ []
 
 abbrev after_result : List ℕ
 after_result = t.ARROW ∷ joins_type
-
-abbrev null : Token
-null = some k.Null
 
 module _ (n : Mode) where
   -- a type, and none in a bracket

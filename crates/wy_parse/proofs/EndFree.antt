@@ -2,17 +2,17 @@
 use Rattle.std.proofs.Common.{◌≡◌, ◌==◌, ℕ, zero, suc, Bool, true, false, List, [], Option, Some, None, refl}
 use Rattle.wy_reading.specs.Rule.{One, Pure, Then, Loop, Refused}
 use Rattle.wy_ast.specs.declared.expressions.Expr.{Expr}
-use Rattle.wy_grammar.specs.declared.fault.Kind.TheVariants.{Deep, Mixed, TooMany}
-use Rattle.wy_grammar.specs.declared.sort.Class.TheVariants as class
-use Rattle.wy_grammar.specs.Sorts as t
-use Rattle.wy_grammar.specs.Sorts.{is, has, members}
-use Rattle.wy_grammar.specs.Steps.{R, inside}
-use Rattle.wy_grammar.specs.Trees.{none}
-use Rattle.wy_grammar.specs.TypeGrammar as types
-use Rattle.wy_grammar.specs.TypeGrammar.{T}
-use Rattle.wy_grammar.specs.ExprGrammar as exprs
-use Rattle.wy_grammar.specs.ExprGrammar.{E, touches}
-use Rattle.wy_grammar.specs.LabelGrammar as labels
+use Rattle.wy_parse_grammar.specs.declared.fault.Kind.TheVariants.{Deep, Mixed, TooMany}
+use Rattle.wy_parse_grammar.specs.declared.sort.Class.TheVariants as class
+use Rattle.wy_parse_grammar.specs.Sorts as t
+use Rattle.wy_parse_grammar.specs.Sorts.{is, has, members}
+use Rattle.wy_parse_grammar.specs.Steps.{R, inside}
+use Rattle.wy_parse_grammar.specs.Trees.{none}
+use Rattle.wy_parse_grammar.specs.TypeGrammar as types
+use Rattle.wy_parse_grammar.specs.TypeGrammar.{T}
+use Rattle.wy_parse_grammar.specs.ExprGrammar as exprs
+use Rattle.wy_parse_grammar.specs.ExprGrammar.{E, touches}
+use Rattle.wy_parse_grammar.specs.LabelGrammar as labels
 use Rattle.wy_parse.specs.StmtTrees.{S, Stmts, Cases, Path}
 use Rattle.wy_parse.specs.StmtGrammar as stmts
 use Rattle.wy_parse.specs.BlockGrammar as blocks

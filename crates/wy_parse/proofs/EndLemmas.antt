@@ -3,15 +3,15 @@ use Rattle.std.proofs.Common.{◌≡◌, ◌==◌, ◌+◌, ◌&&◌, ℕ, zero,
 use Rattle.wy_reading.specs.Rule.{heads, among, One, Pure, Then, Or, Loop, Turns, Refused, Unless, Fenced}
 use Rattle.wy_reading.specs.Rule.Turns.{stop, more}
 use Rattle.wy_lex.specs.declared.token.Token.{Token}
-use Rattle.wy_grammar.specs.declared.fault.Kind.{Kind}
-use Rattle.wy_grammar.specs.declared.fault.Kind.TheVariants.{Deep}
-use Rattle.wy_grammar.specs.declared.sort.Class.{Class}
-use Rattle.wy_grammar.specs.Sorts as t
-use Rattle.wy_grammar.specs.Sorts.{is, has, members, sort}
-use Rattle.wy_grammar.specs.Steps.{R, Mark, Inner, Name, InnerName, Operator, Placed}
-use Rattle.wy_grammar.specs.ExprGrammar.{touches}
+use Rattle.wy_parse_grammar.specs.declared.fault.Kind.{Kind}
+use Rattle.wy_parse_grammar.specs.declared.fault.Kind.TheVariants.{Deep}
+use Rattle.wy_parse_grammar.specs.declared.sort.Class.{Class}
+use Rattle.wy_parse_grammar.specs.Sorts as t
+use Rattle.wy_parse_grammar.specs.Sorts.{is, has, members, sort}
+use Rattle.wy_parse_grammar.specs.Steps.{R, Mark, Inner, Name, InnerName, Operator, Placed}
+use Rattle.wy_parse_grammar.specs.ExprGrammar.{touches}
 use Rattle.wy_parse.specs.Fronts.{NoEnd}
-use Rattle.wy_grammar.proofs.TokenLemmas.{among_these, at_other, no}
+use Rattle.wy_parse_grammar.proofs.TokenLemmas.{among_these, at_other, no}
 
 -- j is behind tokens of i none of which is `End`
 pub record Skips (i j : List Token) : Type 0 where

@@ -6,8 +6,8 @@ use Rattle.wy_reading.specs.Places.{IsText}
 use Rattle.wy_reading.specs.Reader.{Outcome}
 use Rattle.wy_lex.specs.declared.token.Token.{Token}
 use Rattle.wy_ast.specs.declared.declarations.Program.{Program}
-use Rattle.wy_grammar.specs.declared.fault.Kind.{Kind}
-use Rattle.wy_grammar.specs.declared.measured.Measured.{Measured}
+use Rattle.wy_parse_grammar.specs.declared.fault.Kind.{Kind}
+use Rattle.wy_parse_grammar.specs.declared.measured.Measured.{Measured}
 use Rattle.wy_parse.specs.BlockGrammar.{width}
 use Rattle.wy_parse.specs.ProgramGrammar.{Text}
 use Rattle.wy_parse.specs.ProgramReading.{text}
@@ -16,7 +16,7 @@ use Rattle.wy_parse.specs.Fronts.{loose, IsLoose, IsFront, IsPossible}
 use Rattle.wy_parse.proofs.ProgramExact.{promised}
 use Rattle.wy_parse.proofs.ProgramExact.{text-exact}
 use Rattle.wy_parse.proofs.FrontLemmas.{front_of, cut-at, place-cut, program-stands}
-use Rattle.wy_grammar.proofs.LooserLemmas.{left}
+use Rattle.wy_parse_grammar.proofs.LooserLemmas.{left}
 use Rattle.wy_parse.proofs.LooserBlocks.{go-text}
 
 abbrev mode : Bool → ℕ → Mode

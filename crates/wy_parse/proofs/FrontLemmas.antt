@@ -5,12 +5,12 @@ use Rattle.wy_reading.specs.Mode.{Mode, Looser}
 use Rattle.wy_reading.specs.Rule.{Then, Pure}
 use Rattle.wy_reading.specs.Places.{IsText, CanGoOn, IsDead}
 use Rattle.wy_lex.specs.declared.token.Token.{Token}
-use Rattle.wy_grammar.specs.declared.fault.Kind.{Kind}
-use Rattle.wy_grammar.specs.declared.measured.Measured.{Measured}
+use Rattle.wy_parse_grammar.specs.declared.fault.Kind.{Kind}
+use Rattle.wy_parse_grammar.specs.declared.measured.Measured.{Measured}
 use Rattle.wy_ast.specs.declared.declarations.Program.{Program}
-use Rattle.wy_grammar.specs.Sorts as t
-use Rattle.wy_grammar.specs.Sorts.{is}
-use Rattle.wy_grammar.specs.Steps.{Mark, place}
+use Rattle.wy_parse_grammar.specs.Sorts as t
+use Rattle.wy_parse_grammar.specs.Sorts.{is}
+use Rattle.wy_parse_grammar.specs.Steps.{Mark, place}
 use Rattle.wy_parse.specs.DeclTrees.{program_node}
 use Rattle.wy_parse.specs.ProgramGrammar.{Text, ProgramIn}
 use Rattle.wy_parse.specs.Derivation.{profile, place_of, Leaves, Meets}

@@ -17,3 +17,5 @@ pub mod EndFree
 pub mod FrontLemmas
 pub mod LooserBlocks
 pub mod FaultLemmas
+-- passed on to the crates above
+pub use Rattle.wy_lex.proofs as wy_lex_proofs

@@ -1,22 +1,21 @@
 -- Likewise of statements, blocks, declarations and programs: a line for each reader.
 use Rattle.std.proofs.Common.{◌≤◌, ◌+◌, ℕ, zero, suc, Bool, true, false, List, [], ◌∷◌, Option, Some, None, refl, arith}
-use Rattle.wy_reading.specs.Mode.{Mode}
 use Rattle.wy_reading.specs.Rule.{lax}
 use Rattle.wy_reading.specs.Reader.{◌>>=◌, refuse, refused}
 use Rattle.wy_ast.specs.declared.expressions.Expr.{Expr}
-use Rattle.wy_grammar.specs.declared.fault.Kind.TheVariants.{Deep, TooMany}
-use Rattle.wy_grammar.specs.declared.sort.Class.TheVariants as class
-use Rattle.wy_grammar.specs.Sorts as t
-use Rattle.wy_grammar.specs.Sorts.{is, has, members}
-use Rattle.wy_grammar.specs.Steps.{Q, mark, inside}
-use Rattle.wy_grammar.specs.Trees as trees
-use Rattle.wy_grammar.specs.Trees.{none}
-use Rattle.wy_grammar.specs.TypeGrammar.{T}
-use Rattle.wy_grammar.specs.ExprGrammar.{Args, touches}
-use Rattle.wy_grammar.specs.ExprGrammar as expr_rules
-use Rattle.wy_grammar.specs.ExprReading as exprs
-use Rattle.wy_grammar.specs.ExprReading.{readers}
-use Rattle.wy_grammar.specs.LabelReading as labels
+use Rattle.wy_parse_grammar.specs.declared.fault.Kind.TheVariants.{Deep, TooMany}
+use Rattle.wy_parse_grammar.specs.declared.sort.Class.TheVariants as class
+use Rattle.wy_parse_grammar.specs.Sorts as t
+use Rattle.wy_parse_grammar.specs.Sorts.{is, has, members}
+use Rattle.wy_parse_grammar.specs.Steps.{Q, mark, inside}
+use Rattle.wy_parse_grammar.specs.Trees as trees
+use Rattle.wy_parse_grammar.specs.Trees.{none}
+use Rattle.wy_parse_grammar.specs.TypeGrammar.{T}
+use Rattle.wy_parse_grammar.specs.ExprGrammar.{Args, touches}
+use Rattle.wy_parse_grammar.specs.ExprGrammar as expr_rules
+use Rattle.wy_parse_grammar.specs.ExprReading as exprs
+use Rattle.wy_parse_grammar.specs.ExprReading.{readers}
+use Rattle.wy_parse_grammar.specs.LabelReading as labels
 use Rattle.wy_parse.specs.StmtTrees.{Stmts, Cases, Path}
 use Rattle.wy_parse.specs.StmtReading as stmts
 use Rattle.wy_parse.specs.BlockGrammar.{CaseList, width}
@@ -26,8 +25,8 @@ use Rattle.wy_parse.specs.DeclTrees.{Params, Contract}
 use Rattle.wy_parse.specs.ProgramReading as decls
 use Rattle.wy_parse.specs.ProgramGrammar.{has_place}
 use Rattle.wy_parse.proofs.NestLevels.{nested_block-exact, nested_branch-exact, nested_cases-exact}
-use Rattle.wy_grammar.proofs.LooserLemmas.{Goes, Takes, goes-then, goes-pure, goes-token, goes-mark, goes-name, goes-branch, goes-while, goes-unless, goes-refused, goes-none, goes-less, goes-after, goes-shut, goes-inner, goes-placed, Starts, starts, starts-name, starts-here, takes-fewer, takes-unless, takes-placed, takes-alone, goes-finish, takes-is, takes-class, takes-one, takes-then, exact-within}
-use Rattle.wy_grammar.proofs.LooserReaders.{go-type, go-type_rest, go-type_tail, go-expr, go-sum_in, go-args, type-takes}
+use Rattle.wy_parse_grammar.proofs.LooserLemmas.{Goes, Takes, goes-then, goes-pure, goes-token, goes-mark, goes-name, goes-branch, goes-while, goes-unless, goes-refused, goes-none, goes-less, goes-after, goes-shut, goes-inner, goes-placed, Starts, starts, starts-name, starts-here, takes-fewer, takes-unless, takes-placed, takes-alone, goes-finish, takes-is, takes-class, takes-one, takes-then, exact-within}
+use Rattle.wy_parse_grammar.proofs.LooserReaders.{go-type, go-type_rest, go-type_tail, go-expr, go-sum_in, go-args, type-takes, lax_mode}
 
 inside-more : (k d e : ℕ) → suc k + d ≤ e → k + inside d ≤ inside e
 inside-more k d zero h = absurd (omega (arith, h))
@@ -284,9 +283,6 @@ module _ (most : ℕ) (s : Bool) (d e : ℕ) (h : 4 + d ≤ e) (b c : Nested) (x
 
 abbrev nowhere : Nested
 nowhere = record { block = refuse; branch = refuse; cases = λ cs. refuse }
-
-abbrev lax_mode : ℕ → Mode
-lax_mode d = record { depth = d; strict = false }
 
 -- beside what reads nothing
 go-nowhere : (most e : ℕ) → GoNest most nowhere (nested false e)

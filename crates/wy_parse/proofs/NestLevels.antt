@@ -15,13 +15,13 @@ use Rattle.wy_lex.specs.declared.token.Token.{Token}
 use Rattle.wy_lex.specs.declared.token.TokenKind.TheVariants as k
 use Rattle.wy_ast.specs.declared.expressions.ExprKind.TheVariants as e
 use Rattle.wy_ast.specs.declared.statements.StmtKind.TheVariants as stmt
-use Rattle.wy_grammar.specs.declared.fault.Kind.TheVariants.{Deep}
-use Rattle.wy_grammar.specs.declared.measured.Measured.TheVariants.{Low}
-use Rattle.wy_grammar.specs.declared.sort.Class.TheVariants as class
-use Rattle.wy_grammar.specs.Sorts as t
-use Rattle.wy_grammar.specs.Sorts.{is, has, members}
-use Rattle.wy_grammar.specs.Steps.{Q, Mark, mark, name, placed}
-use Rattle.wy_grammar.specs.Trees as parts
+use Rattle.wy_parse_grammar.specs.declared.fault.Kind.TheVariants.{Deep}
+use Rattle.wy_parse_grammar.specs.declared.measured.Measured.TheVariants.{Low}
+use Rattle.wy_parse_grammar.specs.declared.sort.Class.TheVariants as class
+use Rattle.wy_parse_grammar.specs.Sorts as t
+use Rattle.wy_parse_grammar.specs.Sorts.{is, has, members}
+use Rattle.wy_parse_grammar.specs.Steps.{Q, Mark, mark, name, placed}
+use Rattle.wy_parse_grammar.specs.Trees as parts
 use Rattle.wy_parse.specs.StmtTrees as trees
 use Rattle.wy_parse.specs.StmtTrees.{S, Stmts, Cases}
 use Rattle.wy_parse.specs.StmtReading as reads
@@ -29,12 +29,12 @@ use Rattle.wy_parse.specs.BlockGrammar as rule
 use Rattle.wy_parse.specs.BlockGrammar.{CaseList, width}
 use Rattle.wy_parse.specs.BlockReading as read
 use Rattle.wy_parse.specs.BlockReading.{nested}
-use Rattle.wy_grammar.proofs.TokenLemmas.{some, at_other, one_out, fewer}
-use Rattle.wy_grammar.proofs.StepsExact.{mark-exact, mark_declines, name_declines}
-use Rattle.wy_grammar.proofs.TypesExact.{type-declines}
-use Rattle.wy_grammar.proofs.ExprLevels.{expr-null}
+use Rattle.wy_parse_grammar.proofs.TokenLemmas.{some, at_other, one_out, fewer}
+use Rattle.wy_parse_grammar.proofs.StepsExact.{mark-exact, mark_declines, name_declines}
+use Rattle.wy_parse_grammar.proofs.TypesExact.{type-declines, null}
+use Rattle.wy_parse_grammar.proofs.ExprLevels.{expr-null}
 use Rattle.wy_parse.proofs.BlocksExact.{NoElse, BeginsBlock, if_stmt-exact, default-exact, last_out-exact}
-use Rattle.wy_parse.proofs.SwitchExact.{block-exact, cases-exact}
+use Rattle.wy_parse.proofs.SwitchExact.{block-exact, cases-exact, line}
 
 -- ---- what begins no statement is declined at its first token
 
@@ -83,9 +83,6 @@ module _ (s : Bool) (levels : ℕ) (below : read.Nested) (alone : Q Cases) where
 
 abbrev skip : Token
 skip = some k.Skip
-
-abbrev line : Token
-line = some k.LineEnd
 
 abbrev block_in : Token
 block_in = some k.BlockIn
@@ -137,10 +134,6 @@ body_read-skip s (suc d) z h = body-skip s (suc d) (nested s d) (alone_of s (suc
 nested-skip : (s : Bool) (d : ℕ) (z : List Token) → 1 ≤ d → (nested s d).block (line ∷ block_in ∷ skip ∷ line ∷ block_out ∷ z) ≡ Ok (skipped, z)
 unfolding mark
 nested-skip s d z h = nested-framed s d (line ∷ block_in ∷ skip ∷ line ∷ block_out ∷ z) ∙ body_read-skip s d z h
-
--- an `if` with such a block
-abbrev null : Token
-null = some k.Null
 
 abbrev if_text : List Token
 if_text = some k.If ∷ null ∷ some k.Colon ∷ line ∷ block_in ∷ skip ∷ line ∷ block_out ∷ []

@@ -1,6 +1,7 @@
 -- Steps of reading a block with a list of the switches that are open in it.
 use Rattle.std.proofs.Common.{◌≡◌, ◌≢◌, ℕ, zero, suc, ◌+◌, ◌-◌, ◌<◌, ◌^◌, Bool, true, false, ◌&&◌, not, List, [], ◌∷◌, ◌++◌, length, Result, Ok, Err, refl, sym, ap, subst, ◌∙◌, arith, length-append}
 use Rattle.std.proofs.Math.Path.{fun_ext}
+use Rattle.wy_lemmas.proofs.Choices.{at_end}
 use Rattle.wy_reading.specs.declared.stop.Stop.{Stop}
 use Rattle.wy_reading.specs.declared.stop.Stop.TheVariants.{Unexpected, NoMemory}
 use Rattle.wy_reading.specs.Rule.{heads}
@@ -8,13 +9,13 @@ use Rattle.wy_reading.specs.Reader.{◌>>=◌, Outcome, Reads, and_then, pure, b
 use Rattle.wy_lex.specs.declared.token.Token.{Token}
 use Rattle.wy_parse.specs.declared.blocks.Open.{Open}
 use Rattle.wy_parse.specs.declared.blocks.Progress.{Progress}
-use Rattle.wy_grammar.specs.declared.fault.Kind.{Kind}
-use Rattle.wy_grammar.specs.declared.sort.Class.TheVariants as class
-use Rattle.wy_grammar.specs.Sorts as t
-use Rattle.wy_grammar.specs.Sorts.{has, is, members}
-use Rattle.wy_grammar.specs.Steps.{Q, mark}
-use Rattle.wy_grammar.specs.Trees.{pushed, none, some, both}
-use Rattle.wy_grammar.specs.ExprGrammar.{E}
+use Rattle.wy_parse_grammar.specs.declared.fault.Kind.{Kind}
+use Rattle.wy_parse_grammar.specs.declared.sort.Class.TheVariants as class
+use Rattle.wy_parse_grammar.specs.Sorts as t
+use Rattle.wy_parse_grammar.specs.Sorts.{has, is, members}
+use Rattle.wy_parse_grammar.specs.Steps.{Q, mark}
+use Rattle.wy_parse_grammar.specs.Trees.{pushed, none, some, both}
+use Rattle.wy_parse_grammar.specs.ExprGrammar.{E}
 use Rattle.wy_parse.specs.StmtTrees as trees
 use Rattle.wy_parse.specs.StmtTrees.{S, Stmts, Cases}
 use Rattle.wy_parse.specs.BlockGrammar.{width}
@@ -22,7 +23,7 @@ use Rattle.wy_parse.specs.BlockReading as read
 use Rattle.wy_parse.specs.BlockReading.{nested, piece, rest, block, block_of, default, shut_block}
 use Rattle.wy_parse.specs.OpenBlocks.{lone_default, closed, opened, with_stmt, Closes, below, alone, rest_at, going, header, with_cases, statement_but_switch, around, resumed, Moves}
 use Rattle.wy_reading.proofs.Turns.{loop-halts}
-use Rattle.wy_grammar.proofs.TokenLemmas.{at_other}
+use Rattle.wy_parse_grammar.proofs.TokenLemmas.{at_other}
 use Rattle.wy_parse.proofs.Shrinking.{while-turn, mark-eats, mark-lacks}
 use Rattle.wy_parse.proofs.BlockSizes.{piece_at-eats, statement_at-eats, header-eats, lone_default-eats, with_cases-shrinks}
 use denote.Ref.{Bor}
@@ -242,12 +243,6 @@ follows : (begun here : Bool) → (begun && not here) ≡ false → begun ≡ tr
 follows true true e h = refl
 follows true false e h = absurd (cc)
 follows false here e h = absurd (cc)
-
--- where it is
-at_end : (begun here : Bool) → (begun && not here) ≡ true → (begun ≡ true) × (here ≡ false)
-at_end true true e = absurd (cc)
-at_end true false e = (refl, refl)
-at_end false here e = absurd (cc)
 
 pub begins : (levels : ℕ) (p : Progress) (i : List Token) → p.switches ≡ [] → p.made ≡ none → p.begun ≡ false → going levels width false none i ≡ resumed levels width p i
 unfolding around

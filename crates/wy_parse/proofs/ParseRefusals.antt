@@ -9,12 +9,12 @@ use Rattle.wy_reading.specs.Promise.{Promise}
 use Rattle.wy_reading.specs.Reader.{Outcome}
 use Rattle.wy_ast.specs.declared.declarations.Program.{Program}
 use Rattle.wy_lex.specs.declared.token.Token.{Token}
-use Rattle.wy_grammar.specs.declared.fault.Kind.{Kind}
-use Rattle.wy_grammar.specs.declared.fault.Kind.TheVariants as kind
+use Rattle.wy_parse_grammar.specs.declared.fault.Kind.{Kind}
+use Rattle.wy_parse_grammar.specs.declared.fault.Kind.TheVariants as kind
 use Rattle.wy_parse.specs.declared.fault.ParseFault.{ParseFault}
 use Rattle.wy_parse.specs.declared.fault.ParseFault.TheVariants.{Unexpected, Mixed, Deep, TooMany, NoMemory}
-use Rattle.wy_grammar.specs.declared.measured.Measured.{Measured}
-use Rattle.wy_grammar.specs.declared.measured.Measured.TheVariants.{Low, High}
+use Rattle.wy_parse_grammar.specs.declared.measured.Measured.{Measured}
+use Rattle.wy_parse_grammar.specs.declared.measured.Measured.TheVariants.{Low, High}
 use Rattle.wy_parse.specs.ProgramGrammar.{Text}
 use Rattle.wy_parse.specs.ProgramReading.{text}
 use Rattle.wy_parse.specs.Derivation.{profile, place_of, Derives, Meets, Leaves, IsHigh, IsRefused, fault_of, Answers}

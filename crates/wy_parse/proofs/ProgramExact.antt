@@ -10,20 +10,20 @@ use Rattle.wy_reading.proofs.Repetition.{repetition}
 use Rattle.wy_reading.proofs.Adapting.{adapt}
 use Rattle.wy_reading.proofs.Theorem.{whole_text, whole-closes, promise}
 use Rattle.wy_lex.specs.declared.token.TokenKind.TheVariants as k
-use Rattle.wy_grammar.specs.declared.sort.Class.TheVariants as class
-use Rattle.wy_grammar.specs.Sorts as t
-use Rattle.wy_grammar.specs.Sorts.{is, has, members}
-use Rattle.wy_grammar.specs.Steps.{R, Q, inside}
-use Rattle.wy_grammar.specs.Trees as parts
+use Rattle.wy_parse_grammar.specs.declared.sort.Class.TheVariants as class
+use Rattle.wy_parse_grammar.specs.Sorts as t
+use Rattle.wy_parse_grammar.specs.Sorts.{is, has, members}
+use Rattle.wy_parse_grammar.specs.Steps.{R, Q, inside}
+use Rattle.wy_parse_grammar.specs.Trees as parts
 use Rattle.wy_parse.specs.StmtTrees.{Stmts}
 use Rattle.wy_parse.specs.DeclTrees.{D, program_node}
 use Rattle.wy_parse.specs.BlockGrammar.{nest}
 use Rattle.wy_parse.specs.BlockReading.{nested}
 use Rattle.wy_parse.specs.ProgramGrammar as rule
 use Rattle.wy_parse.specs.ProgramReading as read
-use Rattle.wy_grammar.proofs.TokenLemmas.{some, at_other, no}
-use Rattle.wy_grammar.proofs.StepsExact.{mark-exact, name-exact}
-use Rattle.wy_grammar.proofs.InsideExact.{inside-exact}
+use Rattle.wy_parse_grammar.proofs.TokenLemmas.{some, at_other, no}
+use Rattle.wy_parse_grammar.proofs.StepsExact.{mark-exact, name-exact}
+use Rattle.wy_parse_grammar.proofs.InsideExact.{inside-exact}
 use Rattle.wy_parse.proofs.BlocksExact.{BeginsBlock}
 use Rattle.wy_parse.proofs.NestLevels.{nested_block-exact}
 use Rattle.wy_parse.proofs.DeclsExact.{declaration-exact}

@@ -7,9 +7,9 @@ use Rattle.wy_reading.specs.Reader.{◌>>=◌, Outcome, and_then, pure, one, bra
 use Rattle.wy_reading.proofs.Exactness.{Exact, Any, Passes, same_mode}
 use Rattle.wy_reading.proofs.Outcomes.{and_then-ok, ok-parts, if-cases}
 use Rattle.wy_lex.specs.declared.token.Token.{Token}
-use Rattle.wy_grammar.specs.declared.fault.Kind.{Kind}
-use Rattle.wy_grammar.specs.Sorts.{is, NAME}
-use Rattle.wy_grammar.specs.Steps.{R, Q, mark, name}
+use Rattle.wy_parse_grammar.specs.declared.fault.Kind.{Kind}
+use Rattle.wy_parse_grammar.specs.Sorts.{is, NAME}
+use Rattle.wy_parse_grammar.specs.Steps.{R, Q, mark, name}
 
 abbrev pub Shrinks : {A : Type 0} → Q A → Type 0
 Shrinks {A} q = (i : List Token) (a : A) (j : List Token) → q i ≡ Ok (a, j) → length j ≤ length i
@@ -54,9 +54,6 @@ branch-eats test p q one two i a j h = by (if-cases (heads test i) (p i) (q i) (
     by : ((heads test i ≡ true) × (p i ≡ Ok (a, j))) ⊎ ((heads test i ≡ false) × (q i ≡ Ok (a, j))) → length j < length i
     by (inl d) = one i a j d.1
     by (inr d) = two i a j d.1
-
-pub refuses : {A : Type 0} (left : ℕ) (a : A) (j : List Token) → (let r : Q A = λ x. Err (Unexpected left) in r [] ≡ Ok (a, j)) → ⊥
-refuses left a j h = absurd (cc)
 
 pub refused-eats : {A : Type 0} (test : Token → Bool) (x : Kind) → Eats {A = A} (refused test x)
 refused-eats {A} test x i a j h = by (if-cases (heads test i) _ _ _ h)

@@ -3,9 +3,9 @@ use Rattle.std.proofs.Common.{◌≡◌, ◌≢◌, ℕ, zero, suc, ◌-◌, ◌
 use Rattle.wy_reading.specs.Rule.{heads}
 use Rattle.wy_reading.specs.Reader.{refused, ◌>>=◌}
 use Rattle.wy_lex.specs.declared.token.Token.{Token}
-use Rattle.wy_grammar.specs.declared.fault.Kind.TheVariants.{Deep}
-use Rattle.wy_grammar.specs.Sorts.{is, IF, CASE, DEFAULT}
-use Rattle.wy_grammar.specs.Steps.{mark, inside}
+use Rattle.wy_parse_grammar.specs.declared.fault.Kind.TheVariants.{Deep}
+use Rattle.wy_parse_grammar.specs.Sorts.{is, IF, CASE, DEFAULT}
+use Rattle.wy_parse_grammar.specs.Steps.{mark, inside}
 use Rattle.wy_parse.specs.BlockGrammar.{CaseList}
 use Rattle.wy_parse.specs.BlockReading.{nested, if_stmt, case_rest, default, last_out}
 

@@ -9,25 +9,25 @@ use Rattle.wy_reading.proofs.Repetition.{repetition_before, repetition}
 use Rattle.wy_reading.proofs.Adapting.{adapt}
 use Rattle.wy_lex.specs.declared.token.Token.{Token}
 use Rattle.wy_lex.specs.declared.token.TokenKind.TheVariants as k
-use Rattle.wy_grammar.specs.declared.measured.Measured.TheVariants.{Low}
-use Rattle.wy_grammar.specs.declared.sort.Class.TheVariants as class
-use Rattle.wy_grammar.specs.Sorts as t
-use Rattle.wy_grammar.specs.Sorts.{is, has, members}
-use Rattle.wy_grammar.specs.Trees as parts
-use Rattle.wy_grammar.specs.TypeGrammar.{T, Type_}
-use Rattle.wy_grammar.specs.TypeReading.{type_term}
-use Rattle.wy_grammar.specs.ExprGrammar.{Args}
+use Rattle.wy_parse_grammar.specs.declared.measured.Measured.TheVariants.{Low}
+use Rattle.wy_parse_grammar.specs.declared.sort.Class.TheVariants as class
+use Rattle.wy_parse_grammar.specs.Sorts as t
+use Rattle.wy_parse_grammar.specs.Sorts.{is, has, members}
+use Rattle.wy_parse_grammar.specs.Trees as parts
+use Rattle.wy_parse_grammar.specs.TypeGrammar.{T, Type_}
+use Rattle.wy_parse_grammar.specs.TypeReading.{type_term}
+use Rattle.wy_parse_grammar.specs.ExprGrammar.{Args}
 use Rattle.wy_parse.specs.StmtTrees as trees
 use Rattle.wy_parse.specs.StmtTrees.{S, Path}
 use Rattle.wy_parse.specs.StmtGrammar as rule
 use Rattle.wy_parse.specs.StmtGrammar.{word_kind}
 use Rattle.wy_parse.specs.StmtReading as read
-use Rattle.wy_grammar.proofs.TokenLemmas.{some, at, at_other, no, one_out, fewer, member, choice_of, choice_among}
-use Rattle.wy_grammar.proofs.StepsExact.{token-exact, mark-exact, name-exact}
-use Rattle.wy_grammar.proofs.TypesExact.{type-exact, type_rest-exact, type_tail-exact, closing-exact, joins_type, AfterType, BeginsType}
-use Rattle.wy_grammar.proofs.OperatorsExact.{after_expr, After}
-use Rattle.wy_grammar.proofs.ExprLevels.{expr-exact, inner_expr-exact, inner_args-exact}
-use Rattle.wy_grammar.proofs.PlacedExact.{placed-exact}
+use Rattle.wy_parse_grammar.proofs.TokenLemmas.{some, at, at_other, no, one_out, fewer, member, choice_of, choice_among}
+use Rattle.wy_parse_grammar.proofs.StepsExact.{token-exact, mark-exact, name-exact}
+use Rattle.wy_parse_grammar.proofs.TypesExact.{type-exact, type_rest-exact, type_tail-exact, closing-exact, joins_type, AfterType, BeginsType}
+use Rattle.wy_parse_grammar.proofs.OperatorsExact.{after_expr, After}
+use Rattle.wy_parse_grammar.proofs.ExprLevels.{expr-exact, inner_expr-exact, inner_args-exact}
+use Rattle.wy_parse_grammar.proofs.PlacedExact.{placed-exact}
 
 word-exact : {n : Mode} {F : List Token → Type 0} → Exact n rule.Word (λ m. read.word) F (Passes (has class.Word))
 unfolding read.word
@@ -166,5 +166,3 @@ module _ (n : Mode) where
   wheres-exact es =
       repetition (is t.WHERE) where_clause-exact (λ i h. h) (λ i f. one_out t.WHERE (t.WHERE ∷ after_expr) i refl f) (λ i f. fewer after_expr (t.WHERE ∷ after_expr) i refl f)
       (λ i h. at t.WHERE after_expr i h) refl es
-
-pub ruleset stmts_exact = (wheres-exact)

@@ -15,13 +15,13 @@ use Rattle.wy_reading.proofs.Bars.{unless-exact}
 use Rattle.wy_lex.specs.declared.token.Token.{Token}
 use Rattle.wy_lex.specs.declared.token.TokenKind.TheVariants as k
 use Rattle.wy_ast.specs.declared.types.TyKind.TheVariants as ty
-use Rattle.wy_grammar.specs.declared.fault.Kind.TheVariants.{Deep}
-use Rattle.wy_grammar.specs.declared.measured.Measured.TheVariants.{Low}
-use Rattle.wy_grammar.specs.declared.sort.Class.TheVariants as class
-use Rattle.wy_grammar.specs.Sorts as t
-use Rattle.wy_grammar.specs.Sorts.{is, has, members, sort}
-use Rattle.wy_grammar.specs.Steps.{R, Q, Mark, mark, name, placed}
-use Rattle.wy_grammar.specs.Trees as parts
+use Rattle.wy_parse_grammar.specs.declared.fault.Kind.TheVariants.{Deep}
+use Rattle.wy_parse_grammar.specs.declared.measured.Measured.TheVariants.{Low}
+use Rattle.wy_parse_grammar.specs.declared.sort.Class.TheVariants as class
+use Rattle.wy_parse_grammar.specs.Sorts as t
+use Rattle.wy_parse_grammar.specs.Sorts.{is, has, members, sort}
+use Rattle.wy_parse_grammar.specs.Steps.{R, Q, Mark, mark, name, placed}
+use Rattle.wy_parse_grammar.specs.Trees as parts
 use Rattle.wy_parse.specs.StmtTrees as trees
 use Rattle.wy_parse.specs.StmtTrees.{S, Stmts, Cases}
 use Rattle.wy_parse.specs.StmtGrammar as stmts
@@ -29,11 +29,11 @@ use Rattle.wy_parse.specs.StmtReading as reads
 use Rattle.wy_parse.specs.BlockGrammar as rule
 use Rattle.wy_parse.specs.BlockGrammar.{CaseList}
 use Rattle.wy_parse.specs.BlockReading as read
-use Rattle.wy_grammar.proofs.TokenLemmas.{among_these, some, at, at_other, no, choice_of, choice_among}
-use Rattle.wy_grammar.proofs.StepsExact.{mark-exact, mark_declines}
-use Rattle.wy_grammar.proofs.TypesExact.{BeginsType, type-null}
-use Rattle.wy_grammar.proofs.OperatorsExact.{after_expr}
-use Rattle.wy_grammar.proofs.ExprLevels.{expr-exact}
+use Rattle.wy_parse_grammar.proofs.TokenLemmas.{among_these, some, at, at_other, no, choice_of, choice_among}
+use Rattle.wy_parse_grammar.proofs.StepsExact.{mark-exact, mark_declines, x}
+use Rattle.wy_parse_grammar.proofs.TypesExact.{BeginsType, type-null, null}
+use Rattle.wy_parse_grammar.proofs.OperatorsExact.{after_expr}
+use Rattle.wy_parse_grammar.proofs.ExprLevels.{expr-exact}
 use Rattle.wy_parse.proofs.StmtsExact.{word_stmt-exact, return_stmt-exact, assert_stmt-exact, declare_stmt-exact, named_stmt-exact}
 use Rattle.wy_parse.proofs.BlocksExact.{NoElse, BeginsBlock, while_stmt-exact, do_stmt-exact, if_stmt-exact, for_stmt-exact, case_rest-exact, default-exact, last_out-exact}
 
@@ -58,13 +58,7 @@ no_name (s ∷ i) h g = dropped t.NAME (t.NOT ∷ t.NULL ∷ t.BOOL ∷ t.INT �
 
 -- ---- `null x` declares a variable on every level
 
-abbrev null : Token
-null = some k.Null
-
-abbrev x : Token
-x = some (k.Name [])
-
-abbrev line : Token
+abbrev pub line : Token
 line = some k.LineEnd
 
 abbrev declared_null : S

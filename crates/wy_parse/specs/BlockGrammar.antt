@@ -11,19 +11,19 @@
 use Rattle.std.specs.Prelude.{ℕ, ◌^◌, zero, suc, Bool, List, None}
 use Rattle.wy_reading.specs.Rule.{Pure, Then, Loop, Or, Refused, Unless}
 use Rattle.wy_ast.specs.declared.statements.Case.{Case}
-use Rattle.wy_grammar.specs.declared.fault.Kind.TheVariants.{Deep}
-use Rattle.wy_grammar.specs.declared.measured.Measured.{Measured}
-use Rattle.wy_grammar.specs.declared.measured.Measured.TheVariants.{Low}
-use Rattle.wy_grammar.specs.declared.sort.Class.TheVariants as class
-use Rattle.wy_grammar.specs.Sorts as t
-use Rattle.wy_grammar.specs.Sorts.{has, is}
-use Rattle.wy_grammar.specs.Steps.{R, Mark, Name}
-use Rattle.wy_grammar.specs.Trees.{pushed, none, some, both}
-use Rattle.wy_grammar.specs.ExprGrammar.{Expr_, SumIn}
+use Rattle.wy_parse_grammar.specs.declared.fault.Kind.TheVariants.{Deep}
+use Rattle.wy_parse_grammar.specs.declared.measured.Measured.{Measured}
+use Rattle.wy_parse_grammar.specs.declared.measured.Measured.TheVariants.{Low}
+use Rattle.wy_parse_grammar.specs.declared.sort.Class.TheVariants as class
+use Rattle.wy_parse_grammar.specs.Sorts as t
+use Rattle.wy_parse_grammar.specs.Sorts.{has, is}
+use Rattle.wy_parse_grammar.specs.Steps.{R, Mark, Name}
+use Rattle.wy_parse_grammar.specs.Trees.{pushed, none, some, both}
+use Rattle.wy_parse_grammar.specs.ExprGrammar.{Expr_, SumIn}
 use Rattle.wy_parse.specs.StmtTrees as trees
 use Rattle.wy_parse.specs.StmtTrees.{S, Stmts, Cases}
 use Rattle.wy_parse.specs.StmtGrammar.{ReturnStmt, AssertStmt, WordStmt, DeclareStmt, NamedStmt, Wheres}
-use Rattle.wy_grammar.specs.LabelGrammar.{Labels}
+use Rattle.wy_parse_grammar.specs.LabelGrammar.{Labels}
 
 abbrev pub CaseList : Type 0
 CaseList = Measured (List Case)

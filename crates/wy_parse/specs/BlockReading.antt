@@ -1,21 +1,21 @@
 -- How blocks are read: the grammar's shapes as steps, with each choice made by the next token.
 use Rattle.std.specs.Prelude.{ℕ, zero, suc, Bool, true, List, None}
 use Rattle.wy_reading.specs.Reader.{◌>>=◌, pure, branch, while, refused, unless}
-use Rattle.wy_grammar.specs.declared.fault.Kind.TheVariants.{Deep}
-use Rattle.wy_grammar.specs.declared.measured.Measured.{Measured}
-use Rattle.wy_grammar.specs.declared.measured.Measured.TheVariants.{Low}
-use Rattle.wy_grammar.specs.declared.sort.Class.TheVariants as class
-use Rattle.wy_grammar.specs.Sorts as t
-use Rattle.wy_grammar.specs.Sorts.{has, is}
-use Rattle.wy_grammar.specs.Steps.{Q, mark, name}
-use Rattle.wy_grammar.specs.Trees.{pushed, none, some, both}
+use Rattle.wy_parse_grammar.specs.declared.fault.Kind.TheVariants.{Deep}
+use Rattle.wy_parse_grammar.specs.declared.measured.Measured.{Measured}
+use Rattle.wy_parse_grammar.specs.declared.measured.Measured.TheVariants.{Low}
+use Rattle.wy_parse_grammar.specs.declared.sort.Class.TheVariants as class
+use Rattle.wy_parse_grammar.specs.Sorts as t
+use Rattle.wy_parse_grammar.specs.Sorts.{has, is}
+use Rattle.wy_parse_grammar.specs.Steps.{Q, mark, name}
+use Rattle.wy_parse_grammar.specs.Trees.{pushed, none, some, both}
 use Rattle.wy_ast.specs.declared.expressions.Expr.{Expr}
-use Rattle.wy_grammar.specs.ExprGrammar.{E}
-use Rattle.wy_grammar.specs.ExprReading.{readers, sum}
+use Rattle.wy_parse_grammar.specs.ExprGrammar.{E}
+use Rattle.wy_parse_grammar.specs.ExprReading.{readers, sum}
 use Rattle.wy_parse.specs.StmtTrees as trees
 use Rattle.wy_parse.specs.StmtTrees.{S, Stmts, Cases}
 use Rattle.wy_parse.specs.StmtReading.{return_stmt, assert_stmt, word_stmt, declare_stmt, named_stmt, wheres}
-use Rattle.wy_grammar.specs.LabelReading.{labels}
+use Rattle.wy_parse_grammar.specs.LabelReading.{labels}
 use Rattle.wy_parse.specs.BlockGrammar.{CaseList, width}
 
 unfoldable pub otherwise : Q Stmts → Q S → Q Stmts

@@ -6,8 +6,8 @@ use Rattle.wy_ast.specs.declared.declarations.Param.{Param}
 use Rattle.wy_ast.specs.declared.declarations.Decl.{Decl}
 use Rattle.wy_ast.specs.declared.declarations.Decl.TheVariants as decl
 use Rattle.wy_ast.specs.declared.declarations.Program.{Program}
-use Rattle.wy_grammar.specs.declared.measured.Measured.{Measured}
-use Rattle.wy_grammar.specs.Trees.{both, made}
+use Rattle.wy_parse_grammar.specs.declared.measured.Measured.{Measured}
+use Rattle.wy_parse_grammar.specs.Trees.{both, made}
 use Rattle.wy_parse.specs.StmtTrees.{Stmts}
 
 abbrev pub Params : Type 0

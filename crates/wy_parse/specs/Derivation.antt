@@ -4,12 +4,12 @@ use Rattle.wy_reading.specs.Mode.{Mode}
 use Rattle.wy_reading.specs.Places as places
 use Rattle.wy_ast.specs.declared.declarations.Program.{Program}
 use Rattle.wy_lex.specs.declared.token.Token.{Token}
-use Rattle.wy_grammar.specs.declared.fault.Kind.{Kind}
-use Rattle.wy_grammar.specs.declared.fault.Kind.TheVariants as kind
+use Rattle.wy_parse_grammar.specs.declared.fault.Kind.{Kind}
+use Rattle.wy_parse_grammar.specs.declared.fault.Kind.TheVariants as kind
 use Rattle.wy_parse.specs.declared.fault.ParseFault.{ParseFault}
 use Rattle.wy_parse.specs.declared.fault.ParseFault.TheVariants.{Unexpected, Mixed, Deep, TooMany, NoMemory}
-use Rattle.wy_grammar.specs.declared.measured.Measured.TheVariants.{Low, High}
-use Rattle.wy_grammar.specs.Steps.{place}
+use Rattle.wy_parse_grammar.specs.declared.measured.Measured.TheVariants.{Low, High}
+use Rattle.wy_parse_grammar.specs.Steps.{place}
 use Rattle.wy_parse.specs.ProgramGrammar.{Text}
 
 -- what stands in 100 pairs, prefix operators, right sides and blocks stands on the last of these levels; each check is made

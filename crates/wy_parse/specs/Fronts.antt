@@ -4,8 +4,8 @@ use Rattle.wy_reading.specs.Mode.{Mode}
 use Rattle.wy_reading.specs.Places as places
 use Rattle.wy_ast.specs.declared.declarations.Program.{Program}
 use Rattle.wy_lex.specs.declared.token.Token.{Token}
-use Rattle.wy_grammar.specs.declared.measured.Measured.{Measured}
-use Rattle.wy_grammar.specs.Sorts.{is, END}
+use Rattle.wy_parse_grammar.specs.declared.measured.Measured.{Measured}
+use Rattle.wy_parse_grammar.specs.Sorts.{is, END}
 use Rattle.wy_parse.specs.ProgramGrammar.{Text}
 
 -- no further checks are made, and what nests may nest so deep

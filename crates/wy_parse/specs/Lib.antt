@@ -14,3 +14,6 @@ pub mod BlockReading
 pub mod OpenBlocks
 pub mod ProgramReading
 pub mod Parsed
+-- passed on to the crates above
+pub use Rattle.wy_lex.specs as wy_lex
+pub use Rattle.wy_parse_grammar.specs as wy_parse_grammar

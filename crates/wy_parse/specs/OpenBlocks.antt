@@ -7,15 +7,15 @@ use Rattle.wy_reading.specs.Reader.{◌>>=◌, pure, branch, refused, unless}
 use Rattle.wy_lex.specs.declared.token.Token.{Token}
 use Rattle.wy_parse.specs.declared.blocks.Open.{Open}
 use Rattle.wy_parse.specs.declared.blocks.Progress.{Progress}
-use Rattle.wy_grammar.specs.declared.fault.Kind.{Kind}
-use Rattle.wy_grammar.specs.declared.fault.Kind.TheVariants.{Deep}
-use Rattle.wy_grammar.specs.declared.sort.Class.TheVariants as class
-use Rattle.wy_grammar.specs.Sorts as t
-use Rattle.wy_grammar.specs.Sorts.{has, is}
-use Rattle.wy_grammar.specs.Steps.{Q, mark, inside}
-use Rattle.wy_grammar.specs.Trees.{pushed, none, some, both}
-use Rattle.wy_grammar.specs.ExprGrammar.{E}
-use Rattle.wy_grammar.specs.ExprReading.{readers}
+use Rattle.wy_parse_grammar.specs.declared.fault.Kind.{Kind}
+use Rattle.wy_parse_grammar.specs.declared.fault.Kind.TheVariants.{Deep}
+use Rattle.wy_parse_grammar.specs.declared.sort.Class.TheVariants as class
+use Rattle.wy_parse_grammar.specs.Sorts as t
+use Rattle.wy_parse_grammar.specs.Sorts.{has, is}
+use Rattle.wy_parse_grammar.specs.Steps.{Q, mark, inside}
+use Rattle.wy_parse_grammar.specs.Trees.{pushed, none, some, both}
+use Rattle.wy_parse_grammar.specs.ExprGrammar.{E}
+use Rattle.wy_parse_grammar.specs.ExprReading.{readers}
 use Rattle.wy_parse.specs.StmtTrees as trees
 use Rattle.wy_parse.specs.StmtTrees.{S, Stmts, Cases}
 use Rattle.wy_parse.specs.StmtReading.{return_stmt, assert_stmt, word_stmt, declare_stmt, named_stmt}

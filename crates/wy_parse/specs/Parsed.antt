@@ -5,11 +5,11 @@ use Rattle.wy_reading.specs.declared.stop.Stop.{Stop}
 use Rattle.wy_reading.specs.declared.stop.Stop.TheVariants as stop
 use Rattle.wy_ast.specs.declared.declarations.Program.{Program}
 use Rattle.wy_lex.specs.declared.token.Token.{Token}
-use Rattle.wy_grammar.specs.declared.fault.Kind.{Kind}
+use Rattle.wy_parse_grammar.specs.declared.fault.Kind.{Kind}
 use Rattle.wy_parse.specs.declared.fault.ParseFault.{ParseFault}
 use Rattle.wy_parse.specs.declared.fault.ParseFault.TheVariants.{Unexpected, Deep, NoMemory}
-use Rattle.wy_grammar.specs.declared.measured.Measured.{Measured}
-use Rattle.wy_grammar.specs.declared.measured.Measured.TheVariants.{Low, High}
+use Rattle.wy_parse_grammar.specs.declared.measured.Measured.{Measured}
+use Rattle.wy_parse_grammar.specs.declared.measured.Measured.TheVariants.{Low, High}
 use Rattle.wy_parse.specs.Derivation.{profile, place_of, fault_of}
 use Rattle.wy_parse.specs.ProgramReading.{text}
 

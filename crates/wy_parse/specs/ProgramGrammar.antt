@@ -14,16 +14,16 @@ use Rattle.wy_reading.specs.Rule.{Pure, Then, Loop, Or, Refused, Unless, Whole, 
 use Rattle.wy_ast.specs.declared.types.Ty.{Ty}
 use Rattle.wy_ast.specs.declared.declarations.Decl.{Decl}
 use Rattle.wy_ast.specs.declared.declarations.Program.{Program}
-use Rattle.wy_grammar.specs.declared.fault.Kind.TheVariants.{TooMany}
-use Rattle.wy_grammar.specs.declared.measured.Measured.{Measured}
-use Rattle.wy_grammar.specs.declared.measured.Measured.TheVariants.{Low}
-use Rattle.wy_grammar.specs.declared.sort.Class.TheVariants as class
-use Rattle.wy_grammar.specs.Sorts as t
-use Rattle.wy_grammar.specs.Sorts.{has, is}
-use Rattle.wy_grammar.specs.Steps.{R, Mark, Name, inside}
-use Rattle.wy_grammar.specs.Trees.{pushed, none, some}
-use Rattle.wy_grammar.specs.TypeGrammar.{T, Type_, TypeRest}
-use Rattle.wy_grammar.specs.ExprGrammar.{Expr_}
+use Rattle.wy_parse_grammar.specs.declared.fault.Kind.TheVariants.{TooMany}
+use Rattle.wy_parse_grammar.specs.declared.measured.Measured.{Measured}
+use Rattle.wy_parse_grammar.specs.declared.measured.Measured.TheVariants.{Low}
+use Rattle.wy_parse_grammar.specs.declared.sort.Class.TheVariants as class
+use Rattle.wy_parse_grammar.specs.Sorts as t
+use Rattle.wy_parse_grammar.specs.Sorts.{has, is}
+use Rattle.wy_parse_grammar.specs.Steps.{R, Mark, Name, inside}
+use Rattle.wy_parse_grammar.specs.Trees.{pushed, none, some}
+use Rattle.wy_parse_grammar.specs.TypeGrammar.{T, Type_, TypeRest}
+use Rattle.wy_parse_grammar.specs.ExprGrammar.{Expr_}
 use Rattle.wy_parse.specs.StmtTrees.{Stmts}
 use Rattle.wy_parse.specs.StmtGrammar.{Where, Wheres}
 use Rattle.wy_parse.specs.BlockGrammar.{nest}

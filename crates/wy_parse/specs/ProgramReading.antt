@@ -5,16 +5,16 @@ use Rattle.wy_reading.specs.Rule.{lax}
 use Rattle.wy_reading.specs.Reader.{◌>>=◌, pure, branch, while, refused, unless, whole}
 use Rattle.wy_ast.specs.declared.types.Ty.{Ty}
 use Rattle.wy_ast.specs.declared.declarations.Program.{Program}
-use Rattle.wy_grammar.specs.declared.fault.Kind.TheVariants.{TooMany}
-use Rattle.wy_grammar.specs.declared.measured.Measured.{Measured}
-use Rattle.wy_grammar.specs.declared.measured.Measured.TheVariants.{Low}
-use Rattle.wy_grammar.specs.declared.sort.Class.TheVariants as class
-use Rattle.wy_grammar.specs.Sorts as t
-use Rattle.wy_grammar.specs.Sorts.{has, is}
-use Rattle.wy_grammar.specs.Steps.{Q, mark, name, inside}
-use Rattle.wy_grammar.specs.Trees.{pushed, none, some}
-use Rattle.wy_grammar.specs.TypeReading.{type_term, type_rest}
-use Rattle.wy_grammar.specs.ExprReading.{readers}
+use Rattle.wy_parse_grammar.specs.declared.fault.Kind.TheVariants.{TooMany}
+use Rattle.wy_parse_grammar.specs.declared.measured.Measured.{Measured}
+use Rattle.wy_parse_grammar.specs.declared.measured.Measured.TheVariants.{Low}
+use Rattle.wy_parse_grammar.specs.declared.sort.Class.TheVariants as class
+use Rattle.wy_parse_grammar.specs.Sorts as t
+use Rattle.wy_parse_grammar.specs.Sorts.{has, is}
+use Rattle.wy_parse_grammar.specs.Steps.{Q, mark, name, inside}
+use Rattle.wy_parse_grammar.specs.Trees.{pushed, none, some}
+use Rattle.wy_parse_grammar.specs.TypeReading.{type_term, type_rest}
+use Rattle.wy_parse_grammar.specs.ExprReading.{readers}
 use Rattle.wy_parse.specs.StmtTrees.{Stmts}
 use Rattle.wy_parse.specs.StmtReading.{where_clause, wheres}
 use Rattle.wy_parse.specs.BlockReading.{nested}

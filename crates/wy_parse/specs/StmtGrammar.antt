@@ -8,14 +8,14 @@ use Rattle.wy_ast.specs.declared.statements.StmtKind.{StmtKind}
 use Rattle.wy_ast.specs.declared.statements.StmtKind.TheVariants as stmt
 use Rattle.wy_lex.specs.declared.token.TokenKind.{TokenKind}
 use Rattle.wy_lex.specs.declared.token.TokenKind.TheVariants as k
-use Rattle.wy_grammar.specs.declared.measured.Measured.TheVariants.{Low}
-use Rattle.wy_grammar.specs.declared.sort.Class.TheVariants as class
-use Rattle.wy_grammar.specs.Sorts as t
-use Rattle.wy_grammar.specs.Sorts.{has, is}
-use Rattle.wy_grammar.specs.Steps.{R, Mark, Inner, Name, Placed, inside}
-use Rattle.wy_grammar.specs.Trees.{pushed, none, some, named_ty, array_ty}
-use Rattle.wy_grammar.specs.TypeGrammar.{T, Type_, TypeRest, TypeTail}
-use Rattle.wy_grammar.specs.ExprGrammar.{Args, Expr_, ArgsIn}
+use Rattle.wy_parse_grammar.specs.declared.measured.Measured.TheVariants.{Low}
+use Rattle.wy_parse_grammar.specs.declared.sort.Class.TheVariants as class
+use Rattle.wy_parse_grammar.specs.Sorts as t
+use Rattle.wy_parse_grammar.specs.Sorts.{has, is}
+use Rattle.wy_parse_grammar.specs.Steps.{R, Mark, Inner, Name, Placed, inside}
+use Rattle.wy_parse_grammar.specs.Trees.{pushed, none, some, named_ty, array_ty}
+use Rattle.wy_parse_grammar.specs.TypeGrammar.{T, Type_, TypeRest, TypeTail}
+use Rattle.wy_parse_grammar.specs.ExprGrammar.{Args, Expr_, ArgsIn}
 use Rattle.wy_parse.specs.StmtTrees as trees
 use Rattle.wy_parse.specs.StmtTrees.{S, Path}
 

@@ -1,16 +1,16 @@
 -- How statements without blocks are read: the grammar's shapes as steps, with each choice made by the next token.
 use Rattle.std.specs.Prelude.{ℕ, Bool, List, None}
 use Rattle.wy_reading.specs.Reader.{◌>>=◌, pure, one, branch, while}
-use Rattle.wy_grammar.specs.declared.measured.Measured.TheVariants.{Low}
-use Rattle.wy_grammar.specs.declared.sort.Class.TheVariants as class
-use Rattle.wy_grammar.specs.Sorts as t
-use Rattle.wy_grammar.specs.Sorts.{has, is}
-use Rattle.wy_grammar.specs.Steps.{Q, mark, inner, name, placed, inside}
-use Rattle.wy_grammar.specs.Trees.{pushed, none, some, named_ty, array_ty}
-use Rattle.wy_grammar.specs.TypeGrammar.{T}
-use Rattle.wy_grammar.specs.TypeReading.{type_term, type_rest, type_tail}
-use Rattle.wy_grammar.specs.ExprGrammar.{E, Args}
-use Rattle.wy_grammar.specs.ExprReading.{readers, arg_list}
+use Rattle.wy_parse_grammar.specs.declared.measured.Measured.TheVariants.{Low}
+use Rattle.wy_parse_grammar.specs.declared.sort.Class.TheVariants as class
+use Rattle.wy_parse_grammar.specs.Sorts as t
+use Rattle.wy_parse_grammar.specs.Sorts.{has, is}
+use Rattle.wy_parse_grammar.specs.Steps.{Q, mark, inner, name, placed, inside}
+use Rattle.wy_parse_grammar.specs.Trees.{pushed, none, some, named_ty, array_ty}
+use Rattle.wy_parse_grammar.specs.TypeGrammar.{T}
+use Rattle.wy_parse_grammar.specs.TypeReading.{type_term, type_rest, type_tail}
+use Rattle.wy_parse_grammar.specs.ExprGrammar.{E, Args}
+use Rattle.wy_parse_grammar.specs.ExprReading.{readers, arg_list}
 use Rattle.wy_parse.specs.StmtTrees as trees
 use Rattle.wy_parse.specs.StmtTrees.{S, Path}
 use Rattle.wy_parse.specs.StmtGrammar.{word_kind}

@@ -8,9 +8,9 @@ use Rattle.wy_ast.specs.declared.statements.StmtKind.TheVariants as stmt
 use Rattle.wy_ast.specs.declared.statements.Case.{Case, roll-Case}
 use Rattle.wy_ast.specs.declared.statements.Step.{Step}
 use Rattle.wy_ast.specs.declared.statements.StepKind.TheVariants as step
-use Rattle.wy_grammar.specs.declared.measured.Measured.{Measured}
-use Rattle.wy_grammar.specs.declared.measured.Measured.TheVariants.{Low, High}
-use Rattle.wy_grammar.specs.Trees.{both, made}
+use Rattle.wy_parse_grammar.specs.declared.measured.Measured.{Measured}
+use Rattle.wy_parse_grammar.specs.declared.measured.Measured.TheVariants.{Low, High}
+use Rattle.wy_parse_grammar.specs.Trees.{both, made}
 
 abbrev pub S : Type 0
 S = Measured Stmt

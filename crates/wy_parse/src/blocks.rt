@@ -5,27 +5,27 @@ ghost use Rattle.wy_reading.specs.Reader.{Reads};
 ghost use Rattle.wy_reading.specs.Rule.{heads};
 ghost use Rattle.wy_parse.specs.BlockGrammar.{width};
 ghost use Rattle.wy_parse.specs.BlockReading.{block_at, shut_block};
-ghost use Rattle.wy_grammar.specs.Nests.{Nests};
+ghost use Rattle.wy_parse_grammar.specs.Nests.{Nests};
 ghost use Rattle.wy_parse.specs.OpenBlocks as open_blocks;
-ghost use Rattle.wy_grammar.specs.Sorts as sorts;
+ghost use Rattle.wy_parse_grammar.specs.Sorts as sorts;
 ghost use Rattle.wy_parse.specs.StmtTrees as trees;
-ghost use Rattle.wy_grammar.specs.Trees as parts;
-ghost use Rattle.wy_grammar.specs.declared.sort.Class.TheVariants as class;
+ghost use Rattle.wy_parse_grammar.specs.Trees as parts;
+ghost use Rattle.wy_parse_grammar.specs.declared.sort.Class.TheVariants as class;
 
 use crate::nested::{Cases, Nested, Stmts, switch_node};
 use crate::parts::{ExprPart, expr_part};
 use crate::simple::{assert_stmt, declare_stmt, named_stmt, return_stmt, word_stmt};
 use std::alloc::{AllocError, Global};
 use wy_ast::Stmt;
-use wy_grammar::cursor::{Read, inside, mark, next_in, next_is, too_deep};
-use wy_grammar::fault::Kind;
-use wy_grammar::measured::{Measured, both, pushed, some};
-use wy_grammar::sort::{
+use wy_items::Items;
+use wy_lex::Token;
+use wy_parse_grammar::cursor::{Read, inside, mark, next_in, next_is, too_deep};
+use wy_parse_grammar::fault::Kind;
+use wy_parse_grammar::measured::{Measured, both, pushed, some};
+use wy_parse_grammar::sort::{
     ASSERT, BLOCK_IN, BLOCK_OUT, CASE, COLON, Class, DEFAULT, DO, FOR, IF, LINE_END, NAME, RETURN,
     SWITCH, WHILE,
 };
-use wy_items::Items;
-use wy_lex::Token;
 use wy_reading::Stop;
 
 /// A switch without cases whose default's block is read.

@@ -4,7 +4,7 @@ ghost use Rattle.wy_reading.specs.Reader.{Reads};
 ghost use Rattle.wy_parse.specs.BlockReading.{block_at};
 ghost use Rattle.wy_parse.specs.DeclTrees as trees;
 ghost use Rattle.wy_parse.specs.ProgramReading as spec;
-ghost use Rattle.wy_grammar.specs.Steps.{inside};
+ghost use Rattle.wy_parse_grammar.specs.Steps.{inside};
 
 use crate::blocks::block;
 use crate::nested::Stmts;
@@ -13,15 +13,15 @@ use crate::simple::{where_clause, wheres};
 use std::alloc::Global;
 use wy_ast::{Alias, Decl, Expr, Function, Method, Param, Property, Ty};
 use wy_data::Name;
-use wy_grammar::cursor::{Read, mark, name, next_in, next_is};
-use wy_grammar::expressions::expr;
-use wy_grammar::measured::{Measured, both, pushed, some};
-use wy_grammar::sort::{
+use wy_items::{Boxed, Items};
+use wy_lex::Token;
+use wy_parse_grammar::cursor::{Read, mark, name, next_in, next_is};
+use wy_parse_grammar::expressions::expr;
+use wy_parse_grammar::measured::{Measured, both, pushed, some};
+use wy_parse_grammar::sort::{
     ARROW, CLOSE_PAREN, COLON, COMMA, Class, ENSURES, FUNCTION, IS, LINE_END, METHOD, NAME,
     OPEN_PAREN, PROPERTY, REQUIRES, TYPE,
 };
-use wy_items::{Boxed, Items};
-use wy_lex::Token;
 
 /// How many levels there are where declarations stand, this one included: what stands in 100 pairs,
 /// operators and blocks together stands on the last.

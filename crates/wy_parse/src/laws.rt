@@ -5,7 +5,7 @@ ghost use Rattle.wy_lex.specs.declared.token.Token.{Token};
 ghost use Rattle.wy_parse.specs.BlockGrammar.{width};
 ghost use Rattle.wy_parse.specs.Derivation.{Derives, IsHigh, Leaves, Meets};
 ghost use Rattle.wy_parse.specs.Fronts.{FirstImpossible, IsEnded, IsPossible, IsToken};
-ghost use Rattle.wy_grammar.specs.declared.fault.Kind.{Kind};
+ghost use Rattle.wy_parse_grammar.specs.declared.fault.Kind.{Kind};
 
 /// Tokens derive one program.
 pub fn tokens_derive_one_program()

@@ -2,8 +2,8 @@
 ghost use Rattle.std.specs.Prelude.{◌≡◌, ◌<◌, ◌≤◌, ℕ, true};
 ghost use Rattle.wy_reading.specs.Reader.{Reads};
 ghost use Rattle.wy_parse.specs.BlockReading as spec;
-ghost use Rattle.wy_grammar.specs.Nests.{Nests};
-ghost use Rattle.wy_grammar.specs.Steps as steps;
+ghost use Rattle.wy_parse_grammar.specs.Nests.{Nests};
+ghost use Rattle.wy_parse_grammar.specs.Steps as steps;
 ghost use Rattle.wy_parse.specs.StmtTrees as trees;
 
 use crate::parts::{ExprPart, expr_part, sum_part};
@@ -11,15 +11,15 @@ use crate::simple::{stmt_node, wheres};
 use std::alloc::{AllocError, Global};
 use wy_ast::{Case, Expr, Stmt, StmtKind};
 use wy_data::Name;
-use wy_grammar::cursor::{Read, inside, mark, name, next_is, shut};
-use wy_grammar::fault::Kind;
-use wy_grammar::labels::labels;
-use wy_grammar::measured::{Measured, both, pushed, some};
-use wy_grammar::sort::{
-    BLOCK_OUT, CASE, COLON, DEFAULT, DO, ELSE, FOR, IF, IN, LINE_END, RANGE, WHILE,
-};
 use wy_items::{Boxed, Items};
 use wy_lex::Token;
+use wy_parse_grammar::cursor::{Read, inside, mark, name, next_is, shut};
+use wy_parse_grammar::fault::Kind;
+use wy_parse_grammar::labels::labels;
+use wy_parse_grammar::measured::{Measured, both, pushed, some};
+use wy_parse_grammar::sort::{
+    BLOCK_OUT, CASE, COLON, DEFAULT, DO, ELSE, FOR, IF, IN, LINE_END, RANGE, WHILE,
+};
 use wy_reading::Stop;
 
 /// The statements of a block, as far as they were read.

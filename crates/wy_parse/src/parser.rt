@@ -7,24 +7,24 @@ ghost use Rattle.wy_parse.specs.DeclTrees as trees;
 ghost use Rattle.wy_parse.specs.Derivation.{Answers, Derives, IsHigh, IsRefused, Leaves, Meets, MeetsNone, fault_of, place_of, profile};
 ghost use Rattle.wy_parse.specs.Parsed as parsed;
 ghost use Rattle.wy_parse.specs.ProgramReading as spec;
-ghost use Rattle.wy_grammar.specs.Sorts as sorts;
-ghost use Rattle.wy_grammar.specs.Steps.{inside};
-ghost use Rattle.wy_grammar.specs.declared.fault.Kind.{Kind};
-ghost use Rattle.wy_grammar.specs.declared.fault.Kind.TheVariants as kind;
+ghost use Rattle.wy_parse_grammar.specs.Sorts as sorts;
+ghost use Rattle.wy_parse_grammar.specs.Steps.{inside};
+ghost use Rattle.wy_parse_grammar.specs.declared.fault.Kind.{Kind};
+ghost use Rattle.wy_parse_grammar.specs.declared.fault.Kind.TheVariants as kind;
 ghost use Rattle.wy_parse.specs.declared.fault.ParseFault.TheVariants.{Deep, Unexpected};
-ghost use Rattle.wy_grammar.specs.declared.sort.Class.TheVariants as class;
+ghost use Rattle.wy_parse_grammar.specs.declared.sort.Class.TheVariants as class;
 
 use crate::declarations::{LEVELS, declaration};
 use crate::fault::ParseFault;
 use std::alloc::Global;
 use wy_ast::{Decl, Program};
 use wy_data::Name;
-use wy_grammar::cursor::{Read, mark, name, next_in, next_is};
-use wy_grammar::fault::Kind;
-use wy_grammar::measured::{Measured, pushed};
-use wy_grammar::sort::{Class, END, IMPORT, LINE_END};
 use wy_items::Items;
 use wy_lex::Token;
+use wy_parse_grammar::cursor::{Read, mark, name, next_in, next_is};
+use wy_parse_grammar::fault::Kind;
+use wy_parse_grammar::measured::{Measured, pushed};
+use wy_parse_grammar::sort::{Class, END, IMPORT, LINE_END};
 use wy_reading::Stop;
 
 /// How many declarations a program may have.

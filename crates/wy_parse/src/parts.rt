@@ -2,17 +2,17 @@
 //! to hand on, however large its tree is.
 ghost use Rattle.std.specs.Prelude.{◌≡◌};
 ghost use Rattle.wy_reading.specs.Reader.{Reads};
-ghost use Rattle.wy_grammar.specs.ExprReading as exprs;
-ghost use Rattle.wy_grammar.specs.TypeReading as types;
+ghost use Rattle.wy_parse_grammar.specs.ExprReading as exprs;
+ghost use Rattle.wy_parse_grammar.specs.TypeReading as types;
 
 use std::alloc::Global;
 use wy_ast::{Expr, Ty};
-use wy_grammar::cursor::Read;
-use wy_grammar::expressions::{expr, sum};
-use wy_grammar::measured::{Measured, boxed};
-use wy_grammar::types::{type_rest, type_term};
 use wy_items::Boxed;
 use wy_lex::Token;
+use wy_parse_grammar::cursor::Read;
+use wy_parse_grammar::expressions::{expr, sum};
+use wy_parse_grammar::measured::{Measured, boxed};
+use wy_parse_grammar::types::{type_rest, type_term};
 
 /// An expression as it is kept.
 pub type ExprPart = Measured<Boxed<Expr>>;

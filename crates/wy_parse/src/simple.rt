@@ -1,27 +1,27 @@
 //! Statements without blocks.
 ghost use Rattle.std.specs.Prelude.{◌≡◌, true, None};
 ghost use Rattle.wy_reading.specs.Reader.{Reads};
-ghost use Rattle.wy_grammar.specs.Steps as steps;
+ghost use Rattle.wy_parse_grammar.specs.Steps as steps;
 ghost use Rattle.wy_parse.specs.StmtGrammar as grammar;
 ghost use Rattle.wy_parse.specs.StmtReading as spec;
 ghost use Rattle.wy_parse.specs.StmtTrees as trees;
-ghost use Rattle.wy_grammar.specs.Trees.{some};
-ghost use Rattle.wy_grammar.specs.declared.measured.Measured.TheVariants.{Low};
+ghost use Rattle.wy_parse_grammar.specs.Trees.{some};
+ghost use Rattle.wy_parse_grammar.specs.declared.measured.Measured.TheVariants.{Low};
 
 use crate::parts::{ExprPart, TypePart, expr_part, type_part};
 use std::alloc::Global;
 use wy_ast::{Expr, Step, StepKind, Stmt, StmtKind};
 use wy_data::Name;
-use wy_grammar::cursor::{Read, inner, inside, mark, name, next_in, next_is};
-use wy_grammar::expressions::{arguments, expr};
-use wy_grammar::measured::{Measured, both, boxed, pushed};
-use wy_grammar::sort::{
+use wy_items::Items;
+use wy_lex::{Token, TokenKind};
+use wy_parse_grammar::cursor::{Read, inner, inside, mark, name, next_in, next_is};
+use wy_parse_grammar::expressions::{arguments, expr};
+use wy_parse_grammar::measured::{Measured, both, boxed, pushed};
+use wy_parse_grammar::sort::{
     ASSERT, ASSIGN, CLOSE_BRACKET, CLOSE_PAREN, Class, DOT, LINE_END, OPEN_BRACKET, OPEN_PAREN,
     RETURN, WHERE, has, sort,
 };
-use wy_grammar::types::{array_node, named_node, type_rest, type_tail};
-use wy_items::Items;
-use wy_lex::{Token, TokenKind};
+use wy_parse_grammar::types::{array_node, named_node, type_rest, type_tail};
 use wy_reading::Stop;
 
 /// The steps of a path, as far as they were read.
@@ -120,7 +120,7 @@ fn word_kind(kind: &TokenKind) -> StmtKind
 }
 
 /// type NAME [ '=' expr ] LINE, where the type doesn't begin with a name
-#[tactic(auto, unfolding(crate::specs::StmtReading::declare_stmt, wy_grammar::specs::Steps::placed))]
+#[tactic(auto, unfolding(crate::specs::StmtReading::declare_stmt, wy_parse_grammar::specs::Steps::placed))]
 pub fn declare_stmt(alloc: Global, tokens: &[Token], levels: usize) -> Read<'_, Measured<Stmt>>
     ensures { Reads (spec.declare_stmt true levels tokens.now) result }
 {

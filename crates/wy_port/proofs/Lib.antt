@@ -1,1 +1,1 @@
-mod TakenLemmas
+pub mod TakenLemmas

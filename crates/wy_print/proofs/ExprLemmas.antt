@@ -3,11 +3,9 @@ use Rattle.std.proofs.Common.{◌≡◌, ◌∙◌, ℕ, Bool, List, ◌++◌, a
 use Rattle.wy_ast.specs.declared.expressions.Expr.{Expr, the_lemmas}
 use Rattle.wy_ast.specs.declared.expressions.ExprKind as kind
 use Rattle.wy_ast.specs.declared.expressions.Op.{Op}
-use Rattle.wy_ast.specs.declared.types.Ty.{Ty}
 use Rattle.wy_print.specs.Levels.{needs_left, needs_right}
-use Rattle.wy_print.specs.declared.levels.TheConstants.{SUM, UNARY, POSTFIX}
+use Rattle.wy_print.specs.declared.levels.TheConstants.{UNARY}
 use Rattle.wy_print.specs.Pieces.{listed, quantifier_word}
-use Rattle.wy_print.specs.TypeText.{ty_text}
 use Rattle.wy_print.specs.ExprText.{shown, expr_text, expr_texts, bracketed, left_part, right_part, spaced, part, shown_fields, shown_ranges}
 
 binary_text_of : (e a b : Expr) (o : Op) → e.kind ≡ kind.Binary o a b
@@ -31,23 +29,6 @@ neg_text e a is = search (rules, the_lemmas)
 
 pub not_text : (e a : Expr) → e.kind ≡ kind.Not a → expr_text e ≡ codes "!" ++ (part UNARY (shown a)).text
 not_text e a is = search (rules, the_lemmas)
-
-pub is_text : (e a : Expr) (t : Ty) → e.kind ≡ kind.Is a t → expr_text e ≡ (part SUM (shown a)).text ++ (codes " is " ++ ty_text t)
-is_text e a t is = search (rules, the_lemmas)
-
-pub index_text : (e a i : Expr) → e.kind ≡ kind.Index a i
-    → expr_text e ≡ (part POSTFIX (shown a)).text ++ (codes "[" ++ (expr_text i ++ codes "]"))
-index_text e a i is = search (rules, the_lemmas)
-
-pub field_text : (e a : Expr) (name : List ℕ) → e.kind ≡ kind.Field a name → expr_text e ≡ (part POSTFIX (shown a)).text ++ (codes "." ++ name)
-field_text e a name is = search (rules, the_lemmas)
-
-pub list_text : (e : Expr) (items : List Expr) → e.kind ≡ kind.List items → expr_text e ≡ codes "[" ++ (listed (expr_texts items) ++ codes "]")
-list_text e items is = search (rules, the_lemmas)
-
-pub repeat_text : (e a n : Expr) → e.kind ≡ kind.Repeat a n
-    → expr_text e ≡ codes "[" ++ (expr_text a ++ (codes "; " ++ (expr_text n ++ codes "]")))
-repeat_text e a n is = search (rules, the_lemmas)
 
 pub record_text : (e : Expr) (fields : List (List ℕ × Expr)) → e.kind ≡ kind.Record fields
     → expr_text e ≡ codes "{" ++ (listed (shown_fields fields) ++ codes "}")

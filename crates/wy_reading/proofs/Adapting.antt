@@ -2,7 +2,7 @@
 use Rattle.std.proofs.Common.{◌≡◌, ℕ, List, Ok, Err, ◌⊎◌, inl, inr, refl, sym, ◌∙◌}
 use Rattle.wy_reading.specs.declared.stop.Stop.TheVariants.{Unexpected}
 use Rattle.wy_reading.specs.Mode.{Mode, Looser}
-use Rattle.wy_reading.specs.Rule.{Rule, Pure, Then, Or}
+use Rattle.wy_reading.specs.Rule.{Rule, Pure, Then}
 use Rattle.wy_reading.specs.Reader.{Reader, Outcome, ◌>>=◌, pure}
 use Rattle.wy_reading.proofs.Exactness.{same_mode, Stuck, ExactTo, Exact}
 use Rattle.wy_reading.proofs.Outcomes.{and_then-err}
@@ -57,36 +57,6 @@ same_rule e to from meets_to meets_from = record {
   stuck = e.stuck;
   sample = e.sample;
 }
-
--- ---- two ways that begin alike
-
--- What is read by one beginning, and then one way or the other, is the rule that writes both ways out.
-module _ {S X A C : Type 0} (R : Rule S X A) (T U : A → Rule S X C) where
-  abbrev pub Apart : Rule S X C
-  Apart = Or (Then R T) (Then R U)
-
-  abbrev pub Together : Rule S X C
-  Together = Then R (λ a. Or (T a) (U a))
-
-  apart-reads : (i : List S) (c : C) (j : List S) → Together.reads i c j → Apart.reads i c j
-  apart-reads i c j h = elim (h.3) [ inl t ↦ inl (h.0, h.1, h.2, t) | inr u ↦ inr (h.0, h.1, h.2, u) ]
-
-  together-reads : (i : List S) (c : C) (j : List S) → Apart.reads i c j → Together.reads i c j
-  together-reads i c j (inl h) = (h.0, h.1, h.2, inl h.3)
-  together-reads i c j (inr h) = (h.0, h.1, h.2, inr h.3)
-
-  apart-meets : (i : List S) (x : X) (k : ℕ) → Together.meets i x k → Apart.meets i x k
-  apart-meets i x k (inl h) = inl (inl h)
-  apart-meets i x k (inr h) = elim (h.3) [ inl t ↦ inl (inr (h.0, h.1, h.2, t)) | inr u ↦ inr (inr (h.0, h.1, h.2, u)) ]
-
-  together-meets : (i : List S) (x : X) (k : ℕ) → Apart.meets i x k → Together.meets i x k
-  together-meets i x k (inl (inl h)) = inl h
-  together-meets i x k (inl (inr h)) = inr (h.0, h.1, h.2, inl h.3)
-  together-meets i x k (inr (inl h)) = inl h
-  together-meets i x k (inr (inr h)) = inr (h.0, h.1, h.2, inr h.3)
-
-  pub factored : {n : Mode} {q : Mode → Reader S X C} {F : C → List S → Type 0} {B : List S → Type 0} {P : C → Type 0} → ExactTo n Together q F B P → ExactTo n Apart q F B P
-  factored e = same_rule e apart-reads together-reads apart-meets together-meets
 
 -- ---- readers that agree in each looser mode
 

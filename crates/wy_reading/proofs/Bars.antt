@@ -3,21 +3,14 @@ use Rattle.std.proofs.Common.{◌≡◌, ℕ, ◌≤◌, Bool, true, false, true
 use Rattle.std.specs.Bool.{⊤}
 use Rattle.wy_reading.specs.declared.stop.Stop.TheVariants.{Unexpected, Fault}
 use Rattle.wy_reading.specs.Mode.{Mode, Looser}
-use Rattle.wy_reading.specs.Rule.{Rule, heads, Pure, Unless, Barred, Fenced}
-use Rattle.wy_reading.specs.Reader.{Reader, Outcome, pure, refuse, branch, unless, barred, fenced}
+use Rattle.wy_reading.specs.Rule.{Rule, heads, Pure, Unless, Fenced}
+use Rattle.wy_reading.specs.Reader.{Reader, Outcome, pure, refuse, branch, unless, fenced}
 use Rattle.wy_reading.proofs.Exactness.{SameHead, Instead, same_mode, Stuck, Sample, ExactTo, Exact, Passes}
 use Rattle.wy_reading.proofs.Outcomes.{if-cases, SameHead-heads}
 use Rattle.wy_reading.proofs.Single.{nothing}
 use Rattle.wy_reading.proofs.Choice.{choice}
 use Rattle.wy_reading.proofs.Adapting.{adapt, same_readers}
 use Rattle.wy_reading.proofs.Levels.{lowest}
-
--- ---- a bar behind what was read
-
-pub barred-exact : {S X A : Type 0} {n : Mode} {F : List S → Type 0} (test : S → Bool) (x : X) (a : A) → ((i : List S) → F i → heads test i ≡ false)
-    → Exact n (Barred test x a) (λ m. barred test x a) F (λ i. Passes test i ⊎ F i)
-barred-exact {S} {X} {A} {n} {F} test x a halts =
-    lowest n test x (Pure a) (λ m. pure a) (λ m. barred test x a) F F (λ b. ⊤) (nothing a) halts (λ m i h. rw h refl) (λ i h. rw h refl)
 
 -- ---- the first symbol left out
 

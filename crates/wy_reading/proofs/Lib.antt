@@ -22,3 +22,4 @@ pub mod Turns
 pub mod ListLevels
 pub mod ListsExact
 pub mod ListRefusals
+pub mod SharedLemmas

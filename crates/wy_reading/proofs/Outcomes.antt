@@ -32,10 +32,6 @@ SameHead-heads test [] (t ∷ j) h = absurd h
 SameHead-heads test (s ∷ i) [] h = absurd h
 SameHead-heads test (s ∷ i) (t ∷ j) h = ap test h
 
-pub SameHead-refl : {S : Type 0} (i : List S) → SameHead i i
-SameHead-refl [] = tt
-SameHead-refl (s ∷ i) = refl
-
 -- behind a front the first symbol stays
 pub SameHead-behind : {S : Type 0} (front i j : List S) → SameHead i j → SameHead (front ++ i) (front ++ j)
 SameHead-behind [] i j h = h

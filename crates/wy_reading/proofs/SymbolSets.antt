@@ -1,6 +1,7 @@
 -- Tests of symbols by their numbers. Each premise on tests of numbers alone is proved by `refl`.
 use Rattle.std.proofs.Common.{◌≡◌, ℕ, ◌==◌, Bool, true, false, not, true≢false, List, [], ◌∷◌, ◌⊎◌, inl, inr, refl, sym, ap, ◌∙◌, eqb-true}
 use Rattle.std.specs.Prelude.{if◌then◌else◌}
+use Rattle.wy_lemmas.proofs.Choices.{not_true}
 use Rattle.wy_reading.specs.Rule.{heads, among}
 use Rattle.wy_reading.proofs.Outcomes.{if-cases}
 
@@ -35,10 +36,6 @@ every-at test (c ∷ cs) b h g = by (λ x y. every-at test cs b x y) (if-cases (
     by ih (inr x) y = absurd (true≢false (sym x.1))
     by ih (inl x) (inl y) = ap test (eqb-true b c y.0) ∙ x.0
     by ih (inl x) (inr y) = ih x.1 y.1
-
-not_true : (b : Bool) → not b ≡ true → b ≡ false
-not_true true h = absurd (true≢false (sym h))
-not_true false h = refl
 
 module _ {S : Type 0} (sort : S → ℕ) where
   abbrev pub on : (ℕ → Bool) → S → Bool

@@ -212,9 +212,6 @@ module _ {S : Type 0} (X : Type 0) (start part : S → Bool) (begin : S) (begins
     short_word : IsWord (begin ∷ [])
     short_word = record { head = begin; tail = []; shape = refl; starts = begins; goes_on = tt }
 
-    first_name : List S
-    first_name = (begin ∷ []) ++ more_letters
-
     abbrev after : List S → Reader S X (List S)
     after w j = cond (ok w) (Ok (w, j)) (refuse j)
 

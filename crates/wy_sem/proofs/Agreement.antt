@@ -1,13 +1,14 @@
 -- Where no type with clauses is reached, membership is both readings.
 use Rattle.std.proofs.Common.{◌≡◌, refl, sym, ◌∙◌, ap, ℕ, zero, suc, ◌-◌, ◌^◌, ◌≤◌, List, [], ◌∷◌, Bool, true, false, length, arith, ◌≤ℤ◌, slice_get, is_some}
-use Rattle.std.specs.Prelude.{Option, Some, None, not, ◌&&◌, ◌||◌, ℤ, int_le}
+use Rattle.std.specs.Prelude.{Option, Some, None, not, ◌&&◌, ◌||◌, ℤ}
 use Rattle.std.specs.Str.{bytes_eq}
 use Rattle.std.proofs.lemmas.Int.{ints}
-use Rattle.wy_value.specs.Datum.{Datum, Null, Truth, Whole, Array, Record, Data, no_items, item, Fields, no_fields, field}
-use Rattle.wy_value.specs.Values.{IsValue, AreValues, AreValueFields, names_of, length_of}
-use Rattle.wy_value.specs.declared.bounds.TheConstants.{INT_MIN, INT_MAX}
-use Rattle.wy_core.specs.Types.{Ty, NullTy, BoolTy, IntTy, AnyTy, VoidTy, RecordTy, ArrayTy, UnionTy, InterTy, NotTy, NamedTy, NormalTy, FieldTys, NoFieldTys, MoreFieldTys}
-use Rattle.wy_core.specs.CoreTree.{Expr, Alias, AliasDecl, RoutineDecl, Core, aliases_of}
+use Rattle.wy_term.proofs.wy_lemmas_proofs.Choices.{and_end as and-true, at_most_test}
+use Rattle.wy_term.specs.wy_value.Datum.{Datum, Null, Truth, Whole, Array, Record, Data, no_items, item, Fields, no_fields, field}
+use Rattle.wy_term.specs.wy_value.Values.{IsValue, AreValues, AreValueFields, names_of, length_of}
+use Rattle.wy_term.specs.wy_value.declared.bounds.TheConstants.{INT_MIN, INT_MAX}
+use Rattle.wy_types.specs.wy_core.Types.{Ty, NullTy, BoolTy, IntTy, AnyTy, VoidTy, RecordTy, ArrayTy, UnionTy, InterTy, NotTy, NamedTy, NormalTy, FieldTys, NoFieldTys, MoreFieldTys}
+use Rattle.wy_types.specs.wy_core.CoreTree.{Expr, Alias, AliasDecl, RoutineDecl, Core, aliases_of}
 use Rattle.wy_types.specs.Shape as shapes
 use Rattle.wy_types.specs.Shape.{Shape, NullShape, BoolShape, IntShape, ArrayShape, RecordShape}
 use Rattle.wy_types.specs.Names.{Declared, names_in, ty_in, declared_in, named_in, is_in_ty, each_in_ty, is_array, fields_in_tys, is_record_with, shape_of, item_readers, field_readers}
@@ -19,10 +20,6 @@ use Rattle.wy_sem.specs.Membership.{belongs, name_belongs, belongs_of, is_in, it
 use Rattle.wy_sem.specs.Readings.{Names, FieldNames, IsFree, AreFree, ReadingsAgree}
 
 -- ---- truth values
-
-and-true : (b : Bool) → (b && true) ≡ b
-and-true true = refl
-and-true false = refl
 
 and-swapped : (a b c d : Bool) → a ≡ d → b ≡ true → c ≡ true → (a && b) ≡ (c && d)
 and-swapped a b c d p q r = rw (p, q, r) (and-true d)
@@ -41,9 +38,6 @@ and-between true false false p r f h g = let e : r ≡ false = sym h in rw e ref
 and-between true false true p r f h g = let e : r ≡ true = cc in let z : f ≡ false = cc in rw (e, z) refl
 
 -- ---- numbers and lengths
-
-at_most_test : (a b : ℤ) → a ≤ℤ b → int_le a b ≡ true
-at_most_test a b h = grind (arith, ints)
 
 whole-int : (z : ℤ) → (INT_MIN ≤ℤ z) × (z ≤ℤ INT_MAX) → is_whole (Whole z) ≡ true
 whole-int z h = rw (at_most_test INT_MIN z h.0, at_most_test z INT_MAX h.1) refl

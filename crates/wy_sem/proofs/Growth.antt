@@ -1,8 +1,8 @@
 -- More ticks: an evaluation does the same, or goes on.
-use Rattle.std.proofs.Common.{◌≡◌, refl, ◌∙◌, ap, subst, ℕ, zero, suc, ◌+◌, ◌≤◌, List, [], ◌++◌, Bool, true, false, cond, append_assoc, arith, rules}
+use Rattle.std.proofs.Common.{◌≡◌, refl, ◌∙◌, ap, subst, ℕ, zero, suc, ◌+◌, ◌≤◌, List, [], ◌++◌, Bool, append_assoc, arith, rules}
 use Rattle.std.specs.Prelude.{Option, Some, None}
-use Rattle.wy_value.specs.Datum.{Datum}
-use Rattle.wy_core.specs.CoreTree.{Core, routines_of}
+use Rattle.wy_term.specs.wy_value.Datum.{Datum}
+use Rattle.wy_types.specs.wy_core.CoreTree.{Core, routines_of}
 use Rattle.wy_sem.specs.Meter.{Meter, Outcome, Done, Fault, More, Spent, Run, ◌>>=◌, tick, count}
 use Rattle.wy_sem.specs.TypeTests.{forgiven}
 use Rattle.wy_sem.specs.Evaluation.{evaluate, start, callee, place_of}
@@ -59,10 +59,6 @@ extends-tick s h (suc j) m = h (record m { ticks = j })
 follows-tick : {X : Type 0} (i : ℕ) (r s : Run X) → Later i X r s → (t : ℕ) (m : Meter) → Follows i (tick t r m) (tick (t + i) s (record m { ticks = t + i }))
 follows-tick i r s p zero m = extends-tick s p.extends (0 + i) (record m { ticks = 0 + i })
 follows-tick i r s p (suc t) m = let e : suc t + i ≡ suc (t + i) = omega arith in rw e (p.later (record m { ticks = t }))
-
-follows-cond : {X : Type 0} (i : ℕ) (b : Bool) (o p : Outcome X) → Follows i o p → Follows i (cond b o Spent) (cond b p Spent)
-follows-cond i true o p h = h
-follows-cond i false o p h = refl
 
 extends-forgiven : (out : List ℕ) (o : Outcome Bool) → Extends out o → Extends out (forgiven o)
 extends-forgiven out (Done b m) e = e

@@ -10,3 +10,7 @@ pub mod Limits
 pub mod Agreement
 pub mod MemberAnswers
 pub mod MeetsAnswers
+pub mod SharedLemmas
+pub mod kept_lemmas
+-- passed on to the crates above
+pub use Rattle.wy_types.proofs.wy_core_proofs as wy_core_proofs

@@ -2,8 +2,8 @@
 use Rattle.std.proofs.Common.{◌≡◌, refl, ℕ, zero, suc, ◌+◌, ◌<◌, ◌≤◌, ◌⊎◌, inl, inr, List, [], ◌∷◌, Bool, true, false, cond, arith, length}
 use Rattle.std.specs.Prelude.{◌≢◌, Option, Some, None, nat_lt, nat_eq}
 use Rattle.std.proofs.lemmas.Bool.{cases_lt, ltb-true, ltb-false}
-use Rattle.wy_value.specs.Datum.{Datum}
-use Rattle.wy_core.specs.CoreTree.{Core, Expr, Alias, Param, Routine, routines_of, aliases_of}
+use Rattle.wy_term.specs.wy_value.Datum.{Datum}
+use Rattle.wy_types.specs.wy_core.CoreTree.{Core, Expr, Alias, Param, Routine, routines_of, aliases_of}
 use Rattle.wy_sem.specs.Meter.{Meter, Outcome, Done, Fault, More, Spent, Run, ◌>>=◌, tick, count}
 use Rattle.wy_sem.specs.Expressions.{Store, no_calls}
 use Rattle.wy_sem.specs.TypeTests.{forgiven, tests, clause_setting}

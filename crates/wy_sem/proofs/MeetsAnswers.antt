@@ -2,8 +2,8 @@
 use Rattle.std.proofs.Common.{◌≡◌, refl, sym, ◌∙◌, ℕ, ◌+◌, List, [], ◌∷◌, Bool, true, false, length}
 use Rattle.std.specs.Prelude.{None, nat_eq}
 use Rattle.std.proofs.lemmas.Bool.{eqb-true, eq-eqb}
-use Rattle.wy_value.specs.Datum.{Datum}
-use Rattle.wy_core.specs.CoreTree.{Expr, Alias, Routine, Param, Core, aliases_of, routines_of}
+use Rattle.wy_term.specs.wy_value.Datum.{Datum}
+use Rattle.wy_types.specs.wy_core.CoreTree.{Expr, Alias, Routine, Param, Core, aliases_of, routines_of}
 use Rattle.wy_sem.specs.Meter.{Meter, Outcome, Done, Fault, More, Spent, Run, ◌>>=◌}
 use Rattle.wy_sem.specs.Expressions.{Store, holds}
 use Rattle.wy_sem.specs.TypeTests.{clause_setting}

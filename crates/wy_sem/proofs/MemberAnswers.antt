@@ -1,9 +1,9 @@
 -- What a contract asks of a value is answered as membership says, whatever was spent before.
 use Rattle.std.proofs.Common.{◌≡◌, refl, subst, ℕ, zero, suc, ◌+◌, List, [], Bool, true, false, length}
 use Rattle.std.specs.Prelude.{None, not, ◌&&◌, ◌||◌}
-use Rattle.wy_value.specs.Datum.{Datum, Null, Truth, Whole, Array, Record, Data, no_items, item, Fields, no_fields, field}
-use Rattle.wy_core.specs.Types.{Ty, NullTy, BoolTy, IntTy, AnyTy, VoidTy, RecordTy, ArrayTy, UnionTy, InterTy, NotTy, NamedTy, NormalTy, FieldTys, NoFieldTys, MoreFieldTys}
-use Rattle.wy_core.specs.CoreTree.{Expr, Alias}
+use Rattle.wy_term.specs.wy_value.Datum.{Datum, Null, Truth, Whole, Array, Record, Data, no_items, item, Fields, no_fields, field}
+use Rattle.wy_types.specs.wy_core.Types.{Ty, NullTy, BoolTy, IntTy, AnyTy, VoidTy, RecordTy, ArrayTy, UnionTy, InterTy, NotTy, NamedTy, NormalTy, FieldTys, NoFieldTys, MoreFieldTys}
+use Rattle.wy_types.specs.wy_core.CoreTree.{Expr, Alias}
 use Rattle.wy_sem.specs.Meter.{Meter, Outcome, Done, Fault, More, Spent, Run, ◌>>=◌, count, choose}
 use Rattle.wy_sem.specs.Expressions.{Store, no_calls, holds}
 use Rattle.wy_sem.specs.TypeTests.{Test, answer, both, either, opposite, Questions, asked, name_asked, asked_of, is_null, is_truth, is_whole, few_enough, same_names, tested, items_tested, parts_tested, alias_at, alias_holds, tests, forgiven, clause_setting, member}

@@ -2,9 +2,9 @@
 use Rattle.std.proofs.Common.{ℕ, zero, suc, List, [], ◌∷◌, Bool, true, false, length}
 use Rattle.std.specs.Prelude.{Option, None, nat_eq}
 use Rattle.std.specs.Fmt.{signed_decimal}
-use Rattle.wy_value.specs.Datum.{Datum, Data, no_items, item}
-use Rattle.wy_core.specs.Types.{Ty}
-use Rattle.wy_core.specs.CoreTree.{Routine, Param, Core, aliases_of, routines_of}
+use Rattle.wy_term.specs.wy_value.Datum.{Datum, Data, no_items, item}
+use Rattle.wy_types.specs.wy_core.Types.{Ty}
+use Rattle.wy_types.specs.wy_core.CoreTree.{Routine, Param, Core, aliases_of, routines_of}
 use Rattle.wy_term.specs.declared.cond.CondKind.TheVariants as kind
 use Rattle.wy_sem.specs.Meter.{Run}
 use Rattle.wy_sem.specs.Operations.{nat_of}
@@ -46,9 +46,6 @@ module _ (q : Relation) (l1 l2 : Option ℕ) (turns : Turns q l1 l2 false) where
   given_back-kept at (Continued from s) = q.fault (Option Datum) kind.Member at
 
 module _ {N : Type 0} (place : N → ℕ) (q : Relation) (fuel : Bounds q) (spends : Spends q true) (l1 l2 : Option ℕ) (paid_turns : Turns q l1 l2 true) (turns : Turns q l1 l2 false) (core : Core N) where
-  tests_of : Option ℕ → Bool → Ty → Datum → Test
-  tests_of l = tests place l (aliases_of core) (suc (length (aliases_of core)))
-
   owed-kept : (t : Ty) (d : Datum) → q.Rel Bool (owed_member place l1 (aliases_of core) t d) (owed_member place l2 (aliases_of core) t d)
   owed-kept t d = choose-kept q Bool (is_constrained (aliases_of core) t) _ _ _ _ (member-kept place q l1 l2 (aliases_of core) turns t d) (q.done Bool true)
 

@@ -1,14 +1,15 @@
 -- The evaluation of expressions keeps each relation of runs.
 use Rattle.std.proofs.Common.{ℕ, List, [], ◌∷◌, Bool}
 use Rattle.std.specs.Prelude.{Option, Some}
-use Rattle.wy_value.specs.Datum.{Datum, Null, Truth, Whole, Array, Record, Fields, no_fields, field}
-use Rattle.wy_core.specs.Types.{Ty}
-use Rattle.wy_core.specs.CoreTree as tree
-use Rattle.wy_core.specs.CoreTree.{Expr, NullExpr, BoolExpr, IntExpr, VarExpr, CallExpr, NegExpr, NotExpr, LenExpr, BinaryExpr, IsExpr, IndexExpr, FieldExpr, ListExpr, RepeatExpr, RecordExpr, QuantExpr, Exprs, NoExprs, MoreExprs, NoFields, MoreFields}
+use Rattle.wy_term.specs.wy_value.Datum.{Datum, Null, Truth, Whole, Array, Record, Fields, no_fields, field}
+use Rattle.wy_types.specs.wy_core.Types.{Ty}
+use Rattle.wy_types.specs.wy_core.CoreTree as tree
+use Rattle.wy_types.specs.wy_core.CoreTree.{Expr, NullExpr, BoolExpr, IntExpr, VarExpr, CallExpr, NegExpr, NotExpr, LenExpr, BinaryExpr, IsExpr, IndexExpr, FieldExpr, ListExpr, RepeatExpr, RecordExpr, QuantExpr, Exprs, NoExprs, MoreExprs, NoFields, MoreFields}
 use Rattle.wy_sem.specs.Meter.{Run}
-use Rattle.wy_sem.specs.Expressions.{Store, slot, put, Setting, eval, eval_all, eval_fields, data_of}
+use Rattle.wy_sem.specs.Expressions.{Store, slot, put, Setting, eval, eval_all, eval_fields}
 use Rattle.wy_sem.specs.Relation.{Relation, Spends, Turns}
 use Rattle.wy_sem.proofs.RelatedOperations.{needed-kept, negated-kept, denied-kept, length-kept, operated-kept, item-kept, field-kept, repeated-kept, quantified-kept}
+use Rattle.wy_term.specs.wy_value.Seen.{data_of}
 
 abbrev pub setting : {N : Type 0} → (N → ℕ) → Option ℕ → (Bool → Ty → Datum → Run Bool) → (ℕ → ℕ → List Datum → Run (Option Datum)) → Setting N
 setting place limit test call = record { place = place; limit = limit; test = test; call = call }

@@ -2,13 +2,13 @@
 use Rattle.std.proofs.Common.{ℕ, zero, suc, List, Bool, true, false, ℤ, pos}
 use Rattle.std.specs.Prelude.{Option, Some, None, ◌+ℤ◌, ◌-ℤ◌, ◌*ℤ◌, neg_ℤ, not, int_le}
 use Rattle.std.specs.Int.{int_div_euclid}
-use Rattle.wy_value.specs.Datum.{Datum, Null, Truth, Whole, Array, Record, Data, Fields}
-use Rattle.wy_core.specs.declared.expressions.Op.{Op}
-use Rattle.wy_core.specs.declared.expressions.Op.TheVariants.{Add, Sub, Mul, Div, Mod, Equal, Less, LessEqual, Greater, GreaterEqual, And, Or}
+use Rattle.wy_term.specs.wy_value.Datum.{Datum, Null, Truth, Whole, Array, Record, Data, Fields}
+use Rattle.wy_types.specs.wy_core.declared.expressions.Op.{Op}
+use Rattle.wy_types.specs.wy_core.declared.expressions.Op.TheVariants.{Add, Sub, Mul, Div, Mod, Equal, Less, LessEqual, Greater, GreaterEqual, And, Or}
 use Rattle.wy_term.specs.declared.cond.CondKind.{CondKind}
 use Rattle.wy_term.specs.declared.cond.CondKind.TheVariants.{Range, Divisor, Index, Length, Member}
 use Rattle.wy_sem.specs.Meter.{Run, check, choose}
-use Rattle.wy_value.specs.Numbers.{is_int}
+use Rattle.wy_term.specs.wy_value.Numbers.{is_int}
 use Rattle.wy_sem.specs.Operations.{same_number, is_index, nat_of, item_at, find, as_number, as_truth, as_items, as_fields, needed, in_range, negated, denied, length_result, numbers, applied, second, operated, indexed, item_of, field_of, repeated, agrees}
 use Rattle.wy_sem.specs.Expressions.{each, quantified, span}
 use Rattle.wy_sem.specs.Relation.{Relation}

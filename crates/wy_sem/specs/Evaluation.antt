@@ -1,9 +1,9 @@
 -- What a function or method does on arguments, with so many ticks.
 use Rattle.std.specs.Prelude.{ℕ, zero, suc, List, [], ◌∷◌, length, Bool, true, ◌&&◌, Option, Some, None, ℤ, pos, int_le, nat_eq}
 use Rattle.std.specs.Fmt.{signed_decimal}
-use Rattle.wy_value.specs.Datum.{Datum, Data, no_items, item}
-use Rattle.wy_core.specs.Types.{Ty, AnyTy}
-use Rattle.wy_core.specs.CoreTree.{Stmt, DeclareStmt, AssignStmt, CallStmt, ReturnStmt, AssertStmt, BreakStmt, ContinueStmt, SkipStmt, FailStmt, IfStmt, WhileStmt, Stmts, NoStmts, MoreStmts, Alias, Routine, Param, Core, aliases_of, routines_of}
+use Rattle.wy_term.specs.wy_value.Datum.{Datum, Data, no_items, item}
+use Rattle.wy_types.specs.wy_core.Types.{Ty, AnyTy}
+use Rattle.wy_types.specs.wy_core.CoreTree.{Stmt, DeclareStmt, AssignStmt, CallStmt, ReturnStmt, AssertStmt, BreakStmt, ContinueStmt, SkipStmt, FailStmt, IfStmt, WhileStmt, Stmts, NoStmts, MoreStmts, Alias, Routine, Param, Core, aliases_of, routines_of}
 use Rattle.wy_term.specs.declared.cond.CondKind.TheVariants as kind
 use Rattle.wy_sem.specs.Meter.{Meter, Outcome, Done, Fault, More, Spent, Run, ◌>>=◌, spend, count, check, choose, print}
 use Rattle.wy_sem.specs.Operations.{nat_of, as_number, as_items}

@@ -1,12 +1,13 @@
 -- What an expression evaluates to.
 use Rattle.std.specs.Prelude.{ℕ, zero, suc, List, [], ◌∷◌, Bool, false, Option, Some, None, ℤ, pos, ◌+ℤ◌, ◌-ℤ◌}
-use Rattle.wy_value.specs.Datum.{Datum, Null, Truth, Whole, Array, Record, Data, no_items, item, Fields, no_fields, field}
-use Rattle.wy_core.specs.Types.{Ty}
-use Rattle.wy_core.specs.CoreTree as tree
-use Rattle.wy_core.specs.CoreTree.{Expr, NullExpr, BoolExpr, IntExpr, VarExpr, CallExpr, NegExpr, NotExpr, LenExpr, BinaryExpr, IsExpr, IndexExpr, FieldExpr, ListExpr, RepeatExpr, RecordExpr, QuantExpr, Exprs, NoExprs, MoreExprs, NoFields, MoreFields}
+use Rattle.wy_term.specs.wy_value.Datum.{Datum, Null, Truth, Whole, Array, Record, Fields, no_fields, field}
+use Rattle.wy_types.specs.wy_core.Types.{Ty}
+use Rattle.wy_types.specs.wy_core.CoreTree as tree
+use Rattle.wy_types.specs.wy_core.CoreTree.{Expr, NullExpr, BoolExpr, IntExpr, VarExpr, CallExpr, NegExpr, NotExpr, LenExpr, BinaryExpr, IsExpr, IndexExpr, FieldExpr, ListExpr, RepeatExpr, RecordExpr, QuantExpr, Exprs, NoExprs, MoreExprs, NoFields, MoreFields}
 use Rattle.wy_term.specs.declared.cond.CondKind.{CondKind}
 use Rattle.wy_sem.specs.Meter.{Done, More, Run, ◌>>=◌, spend, turn, check, choose}
 use Rattle.wy_sem.specs.Operations.{nat_of, agrees, as_truth, needed, negated, denied, length_result, operated, item_of, field_of, repeated, numbers}
+pub use Rattle.wy_term.specs.wy_value.Seen.{data_of}
 
 -- the value of each variable by its number, None where it is unset
 abbrev pub Store : Type 0
@@ -67,10 +68,6 @@ each all at body i (suc j) m = body i m >>= (λ v. as_truth at v (λ b. choose (
 
 abbrev pub quantified : Bool → ℕ → (ℤ → Run Datum) → Datum → Datum → Run Datum
 quantified all at body v w = numbers at v w (λ from to. each all at body from (span from to))
-
-abbrev pub data_of : List Datum → Data
-data_of [] = no_items
-data_of (d ∷ ds) = item d (data_of ds)
 
 abbrev mutual
   -- the datum of an expression; each node spends a tick in code

@@ -1,10 +1,11 @@
 -- What each form of expression and statement does in a small program: its value or its fault, with kind and place.
 use Rattle.std.specs.Prelude.{◌≡◌, ℕ, List, [], ◌∷◌, Bool, true, false, Option, Some, None, ℤ, pos, negsuc}
-use Rattle.wy_value.specs.Datum.{Datum, Truth, Whole, Array, Record, no_items, item, no_fields, field}
-use Rattle.wy_value.specs.declared.bounds.TheConstants.{INT_MIN, INT_MAX}
-use Rattle.wy_core.specs.Types.{IntTy, AnyTy, NamedTy, ArrayTy, UnionTy, NullTy}
-use Rattle.wy_core.specs.CoreTree.{Expr, NullExpr, BoolExpr, IntExpr, VarExpr, CallExpr, NegExpr, BinaryExpr, IsExpr, IndexExpr, FieldExpr, ListExpr, RepeatExpr, RecordExpr, QuantExpr, Exprs, NoExprs, MoreExprs, NoFields, MoreFields, IndexStep, FieldStep, Stmt, DeclareStmt, AssignStmt, CallStmt, ReturnStmt, AssertStmt, BreakStmt, ContinueStmt, SkipStmt, FailStmt, IfStmt, WhileStmt, Stmts, NoStmts, MoreStmts, Core, Decl, AliasDecl, RoutineDecl}
-use Rattle.wy_core.specs.declared.expressions.Op.TheVariants.{Add, Sub, Mul, Div, Mod, Less, LessEqual, Greater, GreaterEqual, Equal, And, Or}
+use Rattle.wy_sem.specs.Programs.{at_itself}
+use Rattle.wy_term.specs.wy_value.Datum.{Datum, Truth, Whole, Array, Record, no_items, item, no_fields, field}
+use Rattle.wy_term.specs.wy_value.declared.bounds.TheConstants.{INT_MIN, INT_MAX}
+use Rattle.wy_types.specs.wy_core.Types.{IntTy, AnyTy, NamedTy, ArrayTy, UnionTy, NullTy}
+use Rattle.wy_types.specs.wy_core.CoreTree.{Expr, NullExpr, BoolExpr, IntExpr, VarExpr, CallExpr, NegExpr, BinaryExpr, IsExpr, IndexExpr, FieldExpr, ListExpr, RepeatExpr, RecordExpr, QuantExpr, Exprs, NoExprs, MoreExprs, NoFields, MoreFields, IndexStep, FieldStep, Stmt, DeclareStmt, AssignStmt, CallStmt, ReturnStmt, AssertStmt, BreakStmt, ContinueStmt, SkipStmt, FailStmt, IfStmt, WhileStmt, Stmts, NoStmts, MoreStmts, Core, Decl, AliasDecl, RoutineDecl}
+use Rattle.wy_types.specs.wy_core.declared.expressions.Op.TheVariants.{Add, Sub, Mul, Div, Mod, Less, LessEqual, Greater, GreaterEqual, Equal, And, Or}
 use Rattle.wy_term.specs.declared.cond.CondKind.{CondKind}
 use Rattle.wy_term.specs.declared.cond.CondKind.TheVariants.{Range, Divisor, Index, Length, Member, Requires, Ensures, Entry, Keep, Assert, Fail}
 use Rattle.wy_sem.specs.Meter.{Outcome, Done, Fault, More, Spent}
@@ -22,9 +23,6 @@ end_of (Done v m) = gives v m.output
 end_of (Fault kind at m) = faults kind at m.output
 end_of (More m) = wants_more m.output
 end_of Spent = passes_the_limit
-
-abbrev pub at_itself : ℕ → ℕ
-at_itself at = at
 
 abbrev pub name : List ℕ
 name = 120 ∷ []

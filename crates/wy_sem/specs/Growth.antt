@@ -1,7 +1,7 @@
 -- What more ticks change, and what a limit on turns changes.
 use Rattle.std.specs.Prelude.{◌≡◌, ◌≢◌, ℕ, ◌+◌, ◌<◌, ◌≤◌, List, [], ◌++◌, Option, Some, None}
-use Rattle.wy_value.specs.Datum.{Datum}
-use Rattle.wy_core.specs.CoreTree.{Core}
+use Rattle.wy_term.specs.wy_value.Datum.{Datum}
+use Rattle.wy_types.specs.wy_core.CoreTree.{Core}
 use Rattle.wy_term.specs.declared.cond.CondKind.{CondKind}
 use Rattle.wy_sem.specs.Meter.{Meter, Outcome, Done, Fault, More, Spent}
 use Rattle.wy_sem.specs.Evaluation.{evaluate, limited_evaluate, contract_cost}

@@ -17,3 +17,8 @@ pub mod Forms
 -- relations of runs, by which laws are shown
 pub mod Relation
 pub mod Growth
+pub mod kept
+-- passed on to the crates above
+pub use Rattle.wy_types.specs.wy_core as wy_core
+pub use Rattle.wy_term.specs as wy_term
+pub use Rattle.wy_term.specs.wy_value as wy_value

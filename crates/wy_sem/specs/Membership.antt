@@ -1,8 +1,8 @@
 -- Which values are in a type. A name stands for its definition; a type with clauses also needs that each of them evaluates to true.
 use Rattle.std.specs.Prelude.{◌≡◌, ℕ, zero, suc, List, [], length, Bool, true, false, not, ◌&&◌, ◌||◌, None}
-use Rattle.wy_value.specs.Datum.{Datum, Null, Truth, Whole, Array, Record, Data, no_items, item, Fields, no_fields, field}
-use Rattle.wy_core.specs.Types.{Ty, NullTy, BoolTy, IntTy, AnyTy, VoidTy, RecordTy, ArrayTy, UnionTy, InterTy, NotTy, NamedTy, NormalTy, FieldTys, NoFieldTys, MoreFieldTys}
-use Rattle.wy_core.specs.CoreTree.{Alias}
+use Rattle.wy_term.specs.wy_value.Datum.{Datum, Null, Truth, Whole, Array, Record, Data, no_items, item, Fields, no_fields, field}
+use Rattle.wy_types.specs.wy_core.Types.{Ty, NullTy, BoolTy, IntTy, AnyTy, VoidTy, RecordTy, ArrayTy, UnionTy, InterTy, NotTy, NamedTy, NormalTy, FieldTys, NoFieldTys, MoreFieldTys}
+use Rattle.wy_types.specs.wy_core.CoreTree.{Alias}
 use Rattle.wy_sem.specs.Meter.{Meter, Outcome, Done, Fault, More, Spent}
 use Rattle.wy_sem.specs.TypeTests.{is_null, is_truth, is_whole, same_names, few_enough, alias_at, alias_holds, clause_setting, member}
 

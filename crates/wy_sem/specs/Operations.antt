@@ -1,11 +1,11 @@
 -- What is done with data: parts, their kinds, operators and updates.
 use Rattle.std.specs.Prelude.{ℕ, zero, suc, ◌-◌, ◌^◌, List, [], ◌∷◌, Bool, true, false, cond, not, ◌&&◌, Option, Some, None, ℤ, pos, negsuc, ◌+ℤ◌, ◌-ℤ◌, ◌*ℤ◌, neg_ℤ, int_lt, int_le, bytes_eq}
 use Rattle.std.specs.Int.{int_div_euclid, int_rem_euclid}
-use Rattle.wy_value.specs.Datum.{Datum, Null, Truth, Whole, Array, Record, Data, no_items, item, Fields, no_fields, field}
-use Rattle.wy_value.specs.Values.{length_of}
-use Rattle.wy_value.specs.Numbers.{is_int}
-use Rattle.wy_core.specs.declared.expressions.Op.{Op}
-use Rattle.wy_core.specs.declared.expressions.Op.TheVariants.{Add, Sub, Mul, Div, Mod, Equal, Less, LessEqual, Greater, GreaterEqual, And, Or}
+use Rattle.wy_term.specs.wy_value.Datum.{Datum, Null, Truth, Whole, Array, Record, Data, no_items, item, Fields, no_fields, field}
+use Rattle.wy_term.specs.wy_value.Values.{length_of}
+use Rattle.wy_term.specs.wy_value.Numbers.{is_int}
+use Rattle.wy_types.specs.wy_core.declared.expressions.Op.{Op}
+use Rattle.wy_types.specs.wy_core.declared.expressions.Op.TheVariants.{Add, Sub, Mul, Div, Mod, Equal, Less, LessEqual, Greater, GreaterEqual, And, Or}
 use Rattle.wy_term.specs.declared.cond.CondKind.TheVariants.{Range, Divisor, Index, Length, Member}
 use Rattle.wy_sem.specs.Meter.{Done, Fault, Run, ◌>>=◌, check, choose}
 

@@ -1,7 +1,7 @@
 -- Whether arguments meet a function or method, and what it costs to tell.
 use Rattle.std.specs.Prelude.{◌≡◌, ℕ, ◌+◌, List, [], ◌∷◌, length, Bool, true, false, Option, None, nat_eq}
-use Rattle.wy_value.specs.Datum.{Datum}
-use Rattle.wy_core.specs.CoreTree.{Expr, Alias, Routine, Param, Core, aliases_of, routines_of}
+use Rattle.wy_term.specs.wy_value.Datum.{Datum}
+use Rattle.wy_types.specs.wy_core.CoreTree.{Expr, Alias, Routine, Param, Core, aliases_of, routines_of}
 use Rattle.wy_sem.specs.Meter.{Meter, Outcome, Done, Run, ◌>>=◌}
 use Rattle.wy_sem.specs.Expressions.{Store, Setting, holds}
 use Rattle.wy_sem.specs.TypeTests.{clause_setting, member, forgiven}

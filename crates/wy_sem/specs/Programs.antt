@@ -1,10 +1,10 @@
 -- What small programs do, and what that spends.
 use Rattle.std.specs.Prelude.{◌≡◌, ℕ, List, [], ◌∷◌, true, false, Some, None, pos, negsuc}
-use Rattle.wy_value.specs.Datum.{Null, Whole, Record, no_fields, field}
-use Rattle.wy_value.specs.declared.bounds.TheConstants.{INT_MIN}
-use Rattle.wy_core.specs.Types.{NullTy, IntTy, UnionTy, RecordTy, NamedTy, NoFieldTys, MoreFieldTys}
-use Rattle.wy_core.specs.CoreTree.{Expr, IntExpr, VarExpr, CallExpr, NegExpr, BinaryExpr, IsExpr, ListExpr, QuantExpr, NoExprs, MoreExprs, CallStmt, ReturnStmt, IfStmt, Stmts, NoStmts, MoreStmts, Core, RoutineDecl, Alias}
-use Rattle.wy_core.specs.declared.expressions.Op.TheVariants.{Div, Less, Greater, GreaterEqual}
+use Rattle.wy_term.specs.wy_value.Datum.{Null, Whole, Record, no_fields, field}
+use Rattle.wy_term.specs.wy_value.declared.bounds.TheConstants.{INT_MIN}
+use Rattle.wy_types.specs.wy_core.Types.{NullTy, IntTy, UnionTy, RecordTy, NamedTy, NoFieldTys, MoreFieldTys}
+use Rattle.wy_types.specs.wy_core.CoreTree.{Expr, IntExpr, VarExpr, CallExpr, NegExpr, BinaryExpr, IsExpr, ListExpr, QuantExpr, NoExprs, MoreExprs, CallStmt, ReturnStmt, IfStmt, Stmts, NoStmts, MoreStmts, Core, RoutineDecl, Alias}
+use Rattle.wy_types.specs.wy_core.declared.expressions.Op.TheVariants.{Div, Less, Greater, GreaterEqual}
 use Rattle.wy_term.specs.declared.cond.CondKind.TheVariants as kind
 use Rattle.wy_sem.specs.Meter.{Meter, Done, Fault, More, Spent}
 use Rattle.wy_sem.specs.Evaluation.{evaluate, limited_evaluate}

@@ -1,9 +1,9 @@
 -- The two readings of a type beside membership: where no type with clauses is reached they are the same.
 use Rattle.std.specs.Prelude.{◌≡◌, ℕ, Bool, true, false, is_some}
-use Rattle.wy_value.specs.Datum.{Datum}
-use Rattle.wy_value.specs.Values.{IsValue}
-use Rattle.wy_core.specs.Types.{Ty, NullTy, BoolTy, IntTy, AnyTy, VoidTy, RecordTy, ArrayTy, UnionTy, InterTy, NotTy, NamedTy, NormalTy, FieldTys, NoFieldTys, MoreFieldTys}
-use Rattle.wy_core.specs.CoreTree.{Core, aliases_of}
+use Rattle.wy_term.specs.wy_value.Datum.{Datum}
+use Rattle.wy_term.specs.wy_value.Values.{IsValue}
+use Rattle.wy_types.specs.wy_core.Types.{Ty, NullTy, BoolTy, IntTy, AnyTy, VoidTy, RecordTy, ArrayTy, UnionTy, InterTy, NotTy, NamedTy, NormalTy, FieldTys, NoFieldTys, MoreFieldTys}
+use Rattle.wy_types.specs.wy_core.CoreTree.{Core, aliases_of}
 use Rattle.wy_types.specs.Names.{names_in, Up, Down}
 use Rattle.wy_sem.specs.TypeTests.{alias_at, has_clauses}
 use Rattle.wy_sem.specs.Membership.{is_member}

@@ -1,6 +1,6 @@
 -- Relations of two runs that everything that an evaluation does respects.
 use Rattle.std.specs.Prelude.{ℕ, zero, suc, Bool, Option, List}
-use Rattle.wy_value.specs.Datum.{Datum}
+use Rattle.wy_term.specs.wy_value.Datum.{Datum}
 use Rattle.wy_term.specs.declared.cond.CondKind.{CondKind}
 use Rattle.wy_sem.specs.Meter.{Done, Fault, More, Run, ◌>>=◌, spend, turn}
 use Rattle.wy_sem.specs.TypeTests.{forgiven}

@@ -1,9 +1,9 @@
 -- What a statement does.
 use Rattle.std.specs.Prelude.{ℕ, zero, suc, List, [], ◌∷◌, Bool, true, Option, Some, None}
-use Rattle.wy_value.specs.Datum.{Datum}
-use Rattle.wy_core.specs.Types.{Ty, AnyTy}
-use Rattle.wy_core.specs.CoreTree as tree
-use Rattle.wy_core.specs.CoreTree.{Expr, Step, IndexStep, FieldStep, Stmt, DeclareStmt, AssignStmt, CallStmt, ReturnStmt, AssertStmt, BreakStmt, ContinueStmt, SkipStmt, FailStmt, IfStmt, WhileStmt, Stmts, NoStmts, MoreStmts, Param}
+use Rattle.wy_term.specs.wy_value.Datum.{Datum}
+use Rattle.wy_types.specs.wy_core.Types.{Ty, AnyTy}
+use Rattle.wy_types.specs.wy_core.CoreTree as tree
+use Rattle.wy_types.specs.wy_core.CoreTree.{Expr, Step, IndexStep, FieldStep, Stmt, DeclareStmt, AssignStmt, CallStmt, ReturnStmt, AssertStmt, BreakStmt, ContinueStmt, SkipStmt, FailStmt, IfStmt, WhileStmt, Stmts, NoStmts, MoreStmts, Param}
 use Rattle.wy_term.specs.declared.cond.CondKind.TheVariants as kind
 use Rattle.wy_sem.specs.Meter.{Done, Fault, More, Run, ◌>>=◌, spend, check, choose}
 use Rattle.wy_sem.specs.Operations.{as_truth, as_fields, needed, indexed, item_at, find, Slot, ItemSlot, FieldSlot, updated}

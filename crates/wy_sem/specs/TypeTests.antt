@@ -1,11 +1,11 @@
 -- What a test of a type asks, visit by visit.
 use Rattle.std.specs.Prelude.{ℕ, zero, suc, List, [], ◌∷◌, length, Bool, true, false, not, ◌&&◌, ◌||◌, Option, Some, None, pos, int_le, bytes_eq}
-use Rattle.wy_value.specs.Datum.{Datum, Null, Truth, Whole, Array, Record, Data, no_items, item, Fields, no_fields, field}
-use Rattle.wy_value.specs.Values.{length_of}
-use Rattle.wy_core.specs.Types.{Ty, NullTy, BoolTy, IntTy, AnyTy, VoidTy, RecordTy, ArrayTy, UnionTy, InterTy, NotTy, NamedTy, NormalTy, FieldTys, NoFieldTys, MoreFieldTys}
-use Rattle.wy_core.specs.CoreTree.{Expr, Alias}
+use Rattle.wy_term.specs.wy_value.Datum.{Datum, Null, Truth, Whole, Array, Record, Data, no_items, item, Fields, no_fields, field}
+use Rattle.wy_term.specs.wy_value.Values.{length_of}
+use Rattle.wy_types.specs.wy_core.Types.{Ty, NullTy, BoolTy, IntTy, AnyTy, VoidTy, RecordTy, ArrayTy, UnionTy, InterTy, NotTy, NamedTy, NormalTy, FieldTys, NoFieldTys, MoreFieldTys}
+use Rattle.wy_types.specs.wy_core.CoreTree.{Expr, Alias}
 use Rattle.wy_sem.specs.Meter.{Outcome, Done, Fault, More, Spent, Run, ◌>>=◌, turn, choose}
-use Rattle.wy_value.specs.Numbers.{is_int}
+use Rattle.wy_term.specs.wy_value.Numbers.{is_int}
 use Rattle.wy_sem.specs.Operations.{longest, as_truth}
 use Rattle.wy_sem.specs.Expressions.{Store, put, Setting, no_calls, node, eval}
 

@@ -1,7 +1,7 @@
 //! Laws of the value semantics. Each is the contract of a function without a body.
 ghost use Rattle.std.specs.Prelude.{ℕ, List};
-ghost use Rattle.wy_value.specs.Datum.{Datum};
-ghost use Rattle.wy_core.specs.CoreTree.{Core, Alias};
+ghost use Rattle.wy_term.specs.wy_value.Datum.{Datum};
+ghost use Rattle.wy_types.specs.wy_core.CoreTree.{Core, Alias};
 ghost use Rattle.wy_sem.specs.Forms.{FormsDo};
 ghost use Rattle.wy_sem.specs.Growth.{Grows, IsUnique, LimitIsExact};
 ghost use Rattle.wy_sem.specs.Membership.{AnswersAsMembership};

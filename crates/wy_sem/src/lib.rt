@@ -9,6 +9,7 @@
 //! what they do. `laws` has what holds of all of them.
 #![tactic(auto)]
 
+pub mod kept;
 mod laws;
 
 pub use laws::{

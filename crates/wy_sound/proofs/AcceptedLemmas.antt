@@ -1,6 +1,6 @@
 -- What is known of accepted programs and of values.
 use Rattle.std.proofs.Common.{[], ◌∷◌}
-use Rattle.wy_sound_kinds.proofs.DatumLemmas.{values_are_bounded}
+use Rattle.wy_sound_programs.proofs.wy_sound_kinds_proofs.DatumLemmas.{values_are_bounded}
 use Rattle.wy_value.specs.Seen.{seen}
 use Rattle.wy_sound.specs.Accepted.{AcceptedAreShown, ValuesAreHeld}
 

@@ -2,35 +2,36 @@
 use Rattle.std.proofs.Common.{◌≡◌, ℕ, suc, ◌+◌, List, [], length, Bool, true, false, Option, Some, None, refl, sym, subst}
 use Rattle.std.specs.Prelude.{is_some, slice_get}
 use Rattle.std.proofs.lemmas.Bool.{and_parts}
+use Rattle.wy_lemmas.proofs.Choices.{false_true as no_way}
 use Rattle.wy_value.specs.Datum.{Datum}
 use Rattle.wy_core.specs.Types.{Ty}
 use Rattle.wy_core.specs.CoreTree as tree
 use Rattle.wy_core.specs.CoreTree.{Routine, Core, aliases_of, routines_of}
-use Rattle.wy_types.specs.Names.{names_in}
-use Rattle.wy_typing.specs.Contexts as contexts
-use Rattle.wy_typing.specs.Programs as typing
-use Rattle.wy_typing.specs.Programs.{types_of as params_of, result_type}
-use Rattle.wy_formed.specs.Offers.{Signature, offers_of, signatures_of}
-use Rattle.wy_formed.specs.Bound.{with_params as scope_with}
-use Rattle.wy_sem.specs.Meter.{Meter, Done}
-use Rattle.wy_sem.specs.Expressions as sem
-use Rattle.wy_sem.specs.TypeTests.{Test}
-use Rattle.wy_sem.specs.Statements as run
-use Rattle.wy_sem.specs.Statements.{Exit, type_at}
-use Rattle.wy_sem.specs.Evaluation.{Callee, Print, PrintInt, Undeclared, callee, types_of, entry_of, frame_of, owed_member}
-use Rattle.wy_sem.specs.Evaluation as calls
-use Rattle.wy_conditions.specs.Sizes.{exprs_in_list}
-use Rattle.wy_conditions.specs.Numbered.{Node, numbered_block, numbered_routine, numbered_core}
-use Rattle.wy_conditions.specs.Spots.{Spot, is_set}
-use Rattle.wy_conditions.specs.Variables.{Vars}
-use Rattle.wy_conditions.specs.Walks.{Program}
-use Rattle.wy_conditions.specs.Statements.{exec_all}
-use Rattle.wy_conditions.specs.Programs.{program_of, enter, body_of, body_conditions}
-use Rattle.wy_sound_expressions.specs.Truth.{AreTrueBy}
-use Rattle.wy_sound_expressions.specs.Types.{is_in}
-use Rattle.wy_sound_expressions.specs.Written.{IsWritten}
-use Rattle.wy_sound_members.specs.Laws.{told_by}
-use Rattle.wy_sound_members.proofs.ToldLemmas.{told}
+use Rattle.wy_sound_programs.specs.wy_types.Names.{names_in}
+use Rattle.wy_flow_spec.specs.typing.Contexts as contexts
+use Rattle.wy_flow_spec.specs.typing.Programs as typing
+use Rattle.wy_flow_spec.specs.typing.Programs.{types_of as params_of, result_type}
+use Rattle.wy_core.specs.formed.Offers.{Signature, offers_of, signatures_of}
+use Rattle.wy_core.specs.formed.Bound.{with_params as scope_with}
+use Rattle.wy_sound_programs.specs.wy_sem.Meter.{Meter, Done}
+use Rattle.wy_sound_programs.specs.wy_sem.Expressions as sem
+use Rattle.wy_sound_programs.specs.wy_sem.TypeTests.{Test}
+use Rattle.wy_sound_programs.specs.wy_sem.Statements as run
+use Rattle.wy_sound_programs.specs.wy_sem.Statements.{Exit, type_at}
+use Rattle.wy_sound_programs.specs.wy_sem.Evaluation.{Callee, Print, PrintInt, Undeclared, callee, types_of, entry_of, frame_of, owed_member}
+use Rattle.wy_sound_programs.specs.wy_sem.Evaluation as calls
+use Rattle.wy_sound_programs.specs.wy_vc_spec.Sizes.{exprs_in_list}
+use Rattle.wy_sound_programs.specs.wy_vc_spec.Numbered.{Node, numbered_block, numbered_routine, numbered_core}
+use Rattle.wy_sound_programs.specs.wy_vc_spec.Spots.{Spot, is_set}
+use Rattle.wy_sound_programs.specs.wy_vc_spec.Variables.{Vars}
+use Rattle.wy_sound_programs.specs.wy_vc_spec.Walks.{Program}
+use Rattle.wy_sound_programs.specs.wy_vc_spec.Statements.{exec_all}
+use Rattle.wy_sound_programs.specs.wy_vc_spec.Programs.{program_of, enter, body_of, body_conditions}
+use Rattle.wy_sound_types.specs.wy_sound_walks.expressions.Truth.{AreTrueBy}
+use Rattle.wy_sound_types.specs.wy_sound_walks.expressions.Types.{is_in}
+use Rattle.wy_sound_types.specs.wy_sound_walks.expressions.Written.{IsWritten}
+use Rattle.wy_sound_types.specs.members.Laws.{told_by}
+use Rattle.wy_sound_types.proofs.members_lemmas.ToldLemmas.{told}
 use Rattle.wy_sound_types.specs.Tests.{TestsTell}
 use Rattle.wy_sound_types.specs.Laws.{TypesHold, Gives}
 use Rattle.wy_sound_types.specs.Routines.{ResultAmong, TypedContract}
@@ -38,14 +39,14 @@ use Rattle.wy_sound_types.proofs.RankLemmas.{tests_right, checks_are_right}
 use Rattle.wy_sound_types.proofs.RestLemmas.{read, ordered, rests, asks, free}
 use Rattle.wy_sound_types.proofs.RoutineLemmas.{contracts_fit}
 use Rattle.wy_sound_types.proofs.TypedLemmas.{no_answer}
-use Rattle.wy_sound_kinds.specs.Bounded.{IsBounded, AllBounded}
-use Rattle.wy_sound_kinds.specs.Kinds.{AreIn, IsResult, Rests}
-use Rattle.wy_sound_suits.specs.Laws.{Asks}
-use Rattle.wy_sound_calls.specs.CallLaws.{ArgumentsIn, KeepsContract}
-use Rattle.wy_sound_routines.specs.Entries.{ContractIsSafe}
-use Rattle.wy_sound_routines.specs.Depths.{setting_at, ResultIn, CallGives, Handled}
-use Rattle.wy_sound_statements.specs.Ends.{AreHandled, GiveValues, code_kinds}
-use Rattle.wy_sound_statements.specs.StatementSuits.{BlockSuits}
+use Rattle.wy_sound_programs.specs.wy_sound_kinds.Bounded.{IsBounded, AllBounded}
+use Rattle.wy_sound_programs.specs.wy_sound_kinds.Kinds.{AreIn, IsResult, Rests}
+use Rattle.wy_sound_programs.specs.wy_sound_kinds.suits.Laws.{Asks}
+use Rattle.wy_sound_programs.specs.wy_sound_statements.calls.CallLaws.{ArgumentsIn, KeepsContract}
+use Rattle.wy_sound_types.specs.sound_routines.Entries.{ContractIsSafe}
+use Rattle.wy_sound_types.specs.sound_routines.Depths.{setting_at, ResultIn, CallGives, Handled}
+use Rattle.wy_sound_programs.specs.wy_sound_statements.Ends.{AreHandled, GiveValues, code_kinds}
+use Rattle.wy_sound_programs.specs.wy_sound_statements.StatementSuits.{BlockSuits}
 use Rattle.wy_sound_programs.specs.Along.{AllReadyAlong}
 use Rattle.wy_sound_programs.specs.Bodies.{NoneLeft, EndsBefore}
 use Rattle.wy_sound_programs.specs.Begun.{begun, ParamsTyped, Stated}
@@ -58,8 +59,7 @@ use Rattle.wy_sound_programs.proofs.BegunLemmas.{bodies_begun, bodies_keep}
 use Rattle.wy_sound_programs.proofs.EntryLemmas.{entries_mark, bodies_inside}
 use Rattle.wy_sound_programs.proofs.OnceLemmas.{routines_scoped}
 use Rattle.wy_sound_programs.proofs.SuitLemmas.{typed_blocks_suit}
-use Rattle.wy_sound_typing.specs.Typed.{TypedRoutine}
-use Rattle.wy_sound.proofs.HeldLemmas.{no_way}
+use Rattle.wy_sound.specs.typing.Typed.{TypedRoutine}
 use Rattle.wy_sound.proofs.CalleeLemmas.{called_in, takes_of, gives_value, values_of, rules_of, rules_written, allowed_of, IsSigned, signed, called_taken, stated_taken}
 use Rattle.wy_sound.proofs.VariableLemmas.{params_typed, all_arrive}
 

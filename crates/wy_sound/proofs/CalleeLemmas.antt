@@ -2,27 +2,28 @@
 use Rattle.std.proofs.Common.{◌≡◌, ℕ, zero, suc, ◌+◌, List, [], ◌∷◌, ◌++◌, length, Bool, true, false, not, ◌&&◌, ◌||◌, nat_eq, Option, Some, None, ℤ, refl, sym, subst, eqb-true, eq-eqb}
 use Rattle.std.specs.Prelude.{is_some, slice_get}
 use Rattle.std.proofs.lemmas.Bool.{and_parts}
+use Rattle.wy_lemmas.proofs.Choices.{both_true, false_true as no_way}
 use Rattle.wy_value.specs.Datum.{Datum, Null, Truth, Whole, Array, Record, Data, no_items, item}
 use Rattle.wy_core.specs.Types.{Ty, ArrayTy, IntTy}
 use Rattle.wy_core.specs.CoreTree.{Routine, Decl, AliasDecl, RoutineDecl, Core, aliases_of, routines_of}
-use Rattle.wy_types.specs.Names.{Declared, names_in, Up}
-use Rattle.wy_typing.specs.Contexts as typing
-use Rattle.wy_typing.specs.Programs.{types_of, result_type, signatures_in, built_in, program_of}
-use Rattle.wy_sem.specs.Evaluation.{Callee, Print, PrintInt, Undeclared, callee}
-use Rattle.wy_sem.specs.Evaluation as run
-use Rattle.wy_formed.specs.Offers as offers
-use Rattle.wy_formed.specs.Offers.{signatures_of, offers_of, builtin, IsCall}
-use Rattle.wy_conditions.specs.Numbered.{Node, numbered_decls, exprs_in_decl, numbered_core}
-use Rattle.wy_sound_terms.specs.Kinds.{IsWhole}
-use Rattle.wy_sound_expressions.specs.Written.{IsWritten}
-use Rattle.wy_sound_members.proofs.WrittenLemmas.{bound_written}
-use Rattle.wy_sound_kinds.specs.Bounded.{AllBounded}
-use Rattle.wy_sound_kinds.specs.Ready.{Rules}
-use Rattle.wy_sound_kinds.specs.Kinds.{AreIn, AreArguments, AreFor}
-use Rattle.wy_sound_calls.specs.PrintLaws.{AllWhole}
+use Rattle.wy_sound_programs.specs.wy_types.Names.{Declared, names_in, Up}
+use Rattle.wy_flow_spec.specs.typing.Contexts as typing
+use Rattle.wy_flow_spec.specs.typing.Programs.{types_of, result_type, signatures_in, built_in, program_of}
+use Rattle.wy_sound_programs.specs.wy_sem.Evaluation.{Callee, Print, PrintInt, Undeclared, callee}
+use Rattle.wy_sound_programs.specs.wy_sem.Evaluation as run
+use Rattle.wy_core.specs.formed.Offers as offers
+use Rattle.wy_core.specs.formed.Offers.{signatures_of, offers_of, builtin, IsCall}
+use Rattle.wy_sound_programs.specs.wy_vc_spec.Numbered.{Node, numbered_decls, exprs_in_decl, numbered_core}
+use Rattle.wy_sound_programs.specs.wy_sound_terms.operations.Kinds.{IsWhole}
+use Rattle.wy_sound_types.specs.wy_sound_walks.expressions.Written.{IsWritten}
+use Rattle.wy_sound_types.proofs.members_lemmas.WrittenLemmas.{bound_written}
+use Rattle.wy_sound_programs.specs.wy_sound_kinds.Bounded.{AllBounded}
+use Rattle.wy_sound_programs.specs.wy_sound_kinds.Ready.{Rules}
+use Rattle.wy_sound_programs.specs.wy_sound_kinds.Kinds.{AreIn, AreArguments, AreFor}
+use Rattle.wy_sound_programs.specs.wy_sound_statements.calls.PrintLaws.{AllWhole}
 use Rattle.wy_sound_programs.specs.Along.{Allowed, in_statements}
 use Rattle.wy_sound_programs.specs.FormedBodies.{Offering}
-use Rattle.wy_sound.proofs.HeldLemmas.{no_way, both_true, all_held, all_held_are, all_are_held}
+use Rattle.wy_sound.proofs.HeldLemmas.{all_held, all_held_are, all_are_held}
 use Rattle.wy_sound.proofs.TestedLemmas.{is_writable, writable_is, is_writing}
 
 -- ---- texts and numbers

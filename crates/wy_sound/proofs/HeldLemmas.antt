@@ -1,5 +1,5 @@
 -- A test of which data a program may hold.
-use Rattle.std.proofs.Common.{◌≡◌, ℕ, List, [], ◌∷◌, Bool, true, false, ◌&&◌, refl, ap}
+use Rattle.std.proofs.Common.{◌≡◌, ℕ, List, [], ◌∷◌, Bool, true, ◌&&◌, refl, ap}
 use Rattle.std.proofs.lemmas.Bool.{and_parts}
 use Rattle.std.specs.Cmp.Lexicographic.{slice_cmp}
 use Rattle.std.specs.Ordering.{nat_cmp, is_lt}
@@ -7,17 +7,12 @@ use Rattle.std.specs.declared.cmp.Ordering.{Ordering}
 use Rattle.std.specs.declared.cmp.Ordering.TheVariants.{Less, Equal, Greater}
 use Rattle.std.specs.List.{AllByRecursion}
 use Rattle.std.specs.List.Sorted.{IsStrictlySortedBy}
+use Rattle.wy_lemmas.proofs.Choices.{both_true}
 use Rattle.wy_value.specs.Datum.{Datum, Null, Truth, Whole, Array, Record, Data, no_items, item, Fields, no_fields, field}
 use Rattle.wy_value.specs.Values.{Rise, names_of}
 use Rattle.wy_value.specs.Numbers.{is_int}
-use Rattle.wy_sem.specs.TypeTests.{few_enough}
-use Rattle.wy_sound_kinds.specs.Bounded.{IsBounded, AreBounded, FieldsBounded, AllBounded}
-
-pub no_way : {X : Type 0} → false ≡ true → X
-no_way e = absurd cc
-
-pub both_true : (a b : Bool) → a ≡ true → b ≡ true → (a && b) ≡ true
-both_true a b e f = rw (e, f) refl
+use Rattle.wy_sound_programs.specs.wy_sem.TypeTests.{few_enough}
+use Rattle.wy_sound_programs.specs.wy_sound_kinds.Bounded.{IsBounded, AreBounded, FieldsBounded, AllBounded}
 
 -- ---- names that rise
 

@@ -1,21 +1,19 @@
 -- What is asked of arguments and said of results is the same where expressions have numbers.
-use Rattle.std.proofs.Common.{◌≡◌, ℕ, zero, suc, ◌+◌, List, [], ◌∷◌, length, Bool, false, Some, None, refl, sym, ap, ap₂, ◌∙◌}
+use Rattle.std.proofs.Common.{◌≡◌, ℕ, zero, suc, ◌+◌, List, [], ◌∷◌, length, Bool, false, None, sym, ap, ◌∙◌}
 use mathlib.Core.Path.{fun_ext}
 use Rattle.wy_value.specs.Datum.{Datum}
 use Rattle.wy_core.specs.Types.{Ty}
 use Rattle.wy_core.specs.CoreTree.{Expr, Alias, Routine, Decl, AliasDecl, RoutineDecl, Core, aliases_of, routines_of}
-use Rattle.wy_sem.specs.Meter.{Run, ◌>>=◌, choose}
-use Rattle.wy_sem.specs.Operations.{as_truth}
-use Rattle.wy_sem.specs.Expressions.{Store, Setting, no_calls, node, eval, holds}
-use Rattle.wy_sem.specs.TypeTests.{Test, answer, alias_at, unset, set_if, all_hold, alias_holds, tests, clause_setting}
-use Rattle.wy_sem.specs.Membership.{Meaning, is_in, is_yes, clauses_true, is_member}
-use Rattle.wy_sem.specs.Precondition.{AreTrue}
-use Rattle.wy_sem.specs.Evaluation.{Callee, Declared, Print, PrintInt, Undeclared, callee, start}
-use Rattle.wy_conditions.specs.Sizes.{exprs_in}
-use Rattle.wy_conditions.specs.Numbered.{Node, numbered, numbered_list, numbered_routine, numbered_decls, exprs_in_decl, numbered_core}
-use Rattle.wy_sound_numbers.specs.Numbers.{place_of}
-use Rattle.wy_sound_numbers.proofs.ExpressionLemmas.{with_numbers, eval_is, place_is, holds_is}
-use Rattle.wy_sound_numbers.proofs.TestLemmas.{AreNumbered, IsNumbered, with_number, aliases_numbered, length_is, alias_numbered, tests_are}
+use Rattle.wy_sound_programs.specs.wy_sem.Expressions.{Store, Setting, no_calls, holds}
+use Rattle.wy_sound_programs.specs.wy_sem.TypeTests.{Test, alias_at, alias_holds, tests, clause_setting}
+use Rattle.wy_sound_programs.specs.wy_sem.Membership.{Meaning, is_in, is_yes, clauses_true, is_member}
+use Rattle.wy_sound_programs.specs.wy_sem.Precondition.{AreTrue}
+use Rattle.wy_sound_programs.specs.wy_sem.Evaluation.{Callee, Declared, Print, PrintInt, Undeclared, callee, start}
+use Rattle.wy_sound_programs.specs.wy_vc_spec.Sizes.{exprs_in}
+use Rattle.wy_sound_programs.specs.wy_vc_spec.Numbered.{Node, numbered, numbered_list, numbered_routine, numbered_decls, exprs_in_decl, numbered_core}
+use Rattle.wy_sound_programs.specs.wy_sound_terms.numbers.Numbers.{place_of}
+use Rattle.wy_sound_programs.proofs.wy_sound_terms_proofs.numbers_lemmas.ExpressionLemmas.{with_numbers, holds_is}
+use Rattle.wy_sound_programs.proofs.wy_sound_terms_proofs.numbers_lemmas.TestLemmas.{AreNumbered, aliases_numbered, length_is, alias_numbered, tests_are, ty_is, alias_is}
 
 -- ---- what a number calls
 
@@ -40,18 +38,6 @@ callee_numbered (RoutineDecl x ∷ ds) k zero r e = (k, ap (λ (y : Routine ℕ)
 callee_numbered (RoutineDecl x ∷ ds) k (suc f) r e = callee_numbered ds (k + exprs_in_decl (RoutineDecl x)) f r e
 
 -- ---- types with numbers
-
-ty_is : {a : Alias ℕ} {b : Alias Node} → IsNumbered a b → b.ty ≡ a.ty
-ty_is (with_number a k) = refl
-
-all_hold_is : (w : Setting ℕ) (paid : Bool) (es : List (Expr ℕ)) (k : ℕ) (s : Store) → all_hold (with_numbers w) paid (numbered_list es k) s ≡ all_hold w paid es s
-all_hold_is w paid [] k s = refl
-all_hold_is w paid (e ∷ es) k s =
-    ap (λ (at : ℕ). λ m. eval (with_numbers w) paid (numbered e k) s m >>= (λ v. as_truth at v (λ b. choose b (all_hold (with_numbers w) paid (numbered_list es (k + exprs_in e)) s) (answer false)))) (place_is w.place e k)
-    ∙ ap₂ (λ (r : Run Datum) (t : Test). λ m. r m >>= (λ v. as_truth (w.place (node e)) v (λ b. choose b t (answer false)))) (eval_is w paid e k s) (all_hold_is w paid es (k + exprs_in e) s)
-
-alias_is : (w : Setting ℕ) (paid : Bool) {a : Alias ℕ} {b : Alias Node} → IsNumbered a b → (d : Datum) → alias_holds (with_numbers w) paid b d ≡ alias_holds w paid a d
-alias_is w paid (with_number a k) d = all_hold_is w paid a.clauses k (set_if (unset a.variables) a.variable (Some d))
 
 -- ---- contracts
 

@@ -2,25 +2,25 @@
 use Rattle.std.proofs.Common.{◌≡◌, ◌<◌, ℕ, Bool, true, List, [], ◌∷◌, length, map, refl, sym, ap, ◌∙◌}
 use Rattle.std.proofs.lemmas.Bool.{or_left, or_right}
 use Rattle.std.specs.Prelude.{eqb}
+use Rattle.wy_lemmas.proofs.Choices.{eqb_itself as eqb_self}
 use Rattle.wy_value.specs.Datum.{Datum}
 use Rattle.wy_core.specs.Types.{Ty, NamedTy}
 use Rattle.wy_core.specs.CoreTree.{Core}
 use Rattle.wy_term.specs.Meaning.{Names}
 use Rattle.wy_term.specs.Condition.{Entry, AreUnfolded}
-use Rattle.wy_term.proofs.SameLemmas.{eqb_self}
-use Rattle.wy_grounded.specs.Readings.{with_members, AlikeOn}
-use Rattle.wy_grounded.proofs.UniqueLemmas.{one_reading}
-use Rattle.wy_grounded_conditions.proofs.ReachLemmas.{listed_below}
-use Rattle.wy_grounded_conditions.proofs.GroundedLemmas.{grounded}
-use Rattle.wy_conditions.specs.Numbered.{Node}
-use Rattle.wy_conditions.specs.Owed.{Owed}
-use Rattle.wy_conditions.specs.Values.{Setting}
-use Rattle.wy_conditions.specs.Limits.{is_among, types_of, unfolded, unfold_of}
-use Rattle.wy_conditions.specs.Programs.{conditions_of}
-use Rattle.wy_formed_conditions.specs.OwedConditions.{with_types}
-use Rattle.wy_sound_members.specs.Members.{MeetFormulas}
-use Rattle.wy_sound_members.specs.Laws.{told_by}
-use Rattle.wy_sound_members.proofs.MemberLemmas.{some_meet}
+use Rattle.wy_sound_types.specs.wy_term_subst.grounded.Readings.{with_members, AlikeOn}
+use Rattle.wy_sound_types.proofs.wy_term_subst_proofs.grounded_lemmas.UniqueLemmas.{one_reading}
+use Rattle.wy_sound_types.proofs.wy_vc_laws_proofs.grounded_lemmas.ReachLemmas.{listed_below}
+use Rattle.wy_sound_types.proofs.wy_vc_laws_proofs.grounded_lemmas.GroundedLemmas.{grounded}
+use Rattle.wy_sound_programs.specs.wy_vc_spec.Numbered.{Node}
+use Rattle.wy_sound_programs.specs.wy_vc_spec.Owed.{Owed}
+use Rattle.wy_sound_programs.specs.wy_vc_spec.Values.{Setting}
+use Rattle.wy_sound_programs.specs.wy_vc_spec.Limits.{is_among, types_of, unfolded, unfold_of}
+use Rattle.wy_sound_programs.specs.wy_vc_spec.Programs.{conditions_of}
+use Rattle.wy_sound_programs.specs.wy_sound_terms.formed.OwedConditions.{with_types}
+use Rattle.wy_sound_types.specs.members.Members.{MeetFormulas}
+use Rattle.wy_sound_types.specs.members.Laws.{told_by}
+use Rattle.wy_sound_types.proofs.members_lemmas.MemberLemmas.{some_meet}
 use Rattle.wy_sound.specs.Sound.{Shown}
 use Rattle.wy_sound.specs.Readings.{TellMembers, AllTellMembers, ConditionsTellMembers}
 use Rattle.wy_sound.proofs.SoundLemmas.{member_is}

@@ -1,44 +1,44 @@
 -- A program of which nothing is left to show: tests of its types answer as types say, and its calls are taken.
 use Rattle.std.proofs.Common.{◌≡◌, ℕ, List, [], ◌∷◌, length, Bool, true, Option, Some, sym, subst}
 use Rattle.std.specs.Prelude.{slice_get}
+use Rattle.wy_lemmas.proofs.Choices.{false_true as no_way}
 use Rattle.wy_value.specs.Datum.{Datum}
 use Rattle.wy_core.specs.Types.{Ty}
 use Rattle.wy_core.specs.CoreTree.{Alias, Routine, Core, aliases_of}
-use Rattle.wy_types.specs.Names.{names_in}
+use Rattle.wy_sound_programs.specs.wy_types.Names.{names_in}
 use Rattle.wy_term.specs.Condition.{Condition}
-use Rattle.wy_formed.specs.Offers.{offers_of}
-use Rattle.wy_formed.specs.Bound.{with_option, with_params, result_variable}
-use Rattle.wy_sem.specs.Evaluation.{Callee, Print, PrintInt, Undeclared, owed_member}
-use Rattle.wy_sem.specs.Evaluation as calls
-use Rattle.wy_conditions.specs.Numbered.{Node, numbered_routine, numbered_core}
-use Rattle.wy_conditions.specs.Programs.{program_of, enter, body_conditions}
-use Rattle.wy_shown_conditions.specs.Certified.{AllHold}
-use Rattle.wy_sound_expressions.specs.Truth.{AreTrueBy}
-use Rattle.wy_sound_members.specs.Members.{MeetFormulas, HoldAlways}
-use Rattle.wy_sound_members.specs.Laws.{told_by}
-use Rattle.wy_sound_members.proofs.MemberLemmas.{are_true_by}
+use Rattle.wy_core.specs.formed.Offers.{offers_of}
+use Rattle.wy_core.specs.formed.Bound.{with_option, with_params, result_variable}
+use Rattle.wy_sound_programs.specs.wy_sem.Evaluation.{Callee, Print, PrintInt, Undeclared, owed_member}
+use Rattle.wy_sound_programs.specs.wy_sem.Evaluation as calls
+use Rattle.wy_sound_programs.specs.wy_vc_spec.Numbered.{Node, numbered_routine, numbered_core}
+use Rattle.wy_sound_programs.specs.wy_vc_spec.Programs.{program_of, enter, body_conditions}
+use Rattle.wy_sound_types.specs.wy_vc_laws.shown.Certified.{AllHold}
+use Rattle.wy_sound_types.specs.wy_sound_walks.expressions.Truth.{AreTrueBy}
+use Rattle.wy_sound_types.specs.members.Members.{MeetFormulas, HoldAlways}
+use Rattle.wy_sound_types.specs.members.Laws.{told_by}
+use Rattle.wy_sound_types.proofs.members_lemmas.MemberLemmas.{are_true_by}
 use Rattle.wy_sound_types.specs.Laws.{TypesMeet, TypesHold}
 use Rattle.wy_sound_types.specs.Routines.{TypedContract}
 use Rattle.wy_sound_types.proofs.QuietLemmas.{clauses_of_types_quiet}
 use Rattle.wy_sound_types.proofs.TypedLemmas.{clauses_of_types_meet}
-use Rattle.wy_sound_fits.specs.Fit.{ClausesReady}
-use Rattle.wy_sound_calls.specs.CallLaws.{ArgumentsIn, KeepsContract}
-use Rattle.wy_sound_routines.specs.Entries.{ContractIsSafe}
-use Rattle.wy_sound_routines.specs.Depths.{setting_at, Handled, AllTaken}
-use Rattle.wy_sound_routines.specs.Takes.{RoutineStands, TakesWell}
-use Rattle.wy_sound_routines.proofs.TakeLemmas.{calls_taken}
+use Rattle.wy_sound_programs.specs.wy_sound_kinds.fits.Fit.{ClausesReady}
+use Rattle.wy_sound_programs.specs.wy_sound_statements.calls.CallLaws.{ArgumentsIn, KeepsContract}
+use Rattle.wy_sound_types.specs.sound_routines.Entries.{ContractIsSafe}
+use Rattle.wy_sound_types.specs.sound_routines.Depths.{setting_at, Handled, AllTaken}
+use Rattle.wy_sound_types.specs.sound_routines.Takes.{RoutineStands, TakesWell}
+use Rattle.wy_sound_types.proofs.sound_routines_lemmas.TakeLemmas.{calls_taken}
 use Rattle.wy_sound_programs.specs.Made.{all_marked, AllMade}
 use Rattle.wy_sound_programs.proofs.FormedLemmas.{formed_made}
-use Rattle.wy_sound_typing.specs.Parts.{FormedAlias, FormedRoutine}
-use Rattle.wy_sound_typing.specs.Typed.{TypedRoutine}
-use Rattle.wy_sound_marks.proofs.BodyLemmas.{bodies_ready, bodies_end}
-use Rattle.wy_sound_marks.proofs.ClauseLemmas.{contracts_ready, types_ready}
-use Rattle.wy_sound_typing.proofs.AliasLemmas.{aliases_typed, numbered_types_have}
-use Rattle.wy_sound_typing.proofs.PartLemmas.{parts_formed}
-use Rattle.wy_sound_typing.proofs.RoutineLemmas.{routines_typed}
-use Rattle.wy_sound_typing.proofs.TypeLemmas.{variables_typed}
+use Rattle.wy_sound.specs.typing.Parts.{FormedAlias, FormedRoutine}
+use Rattle.wy_sound.specs.typing.Typed.{TypedRoutine}
+use Rattle.wy_sound.proofs.marks_lemmas.BodyLemmas.{bodies_ready, bodies_end}
+use Rattle.wy_sound.proofs.marks_lemmas.ClauseLemmas.{contracts_ready, types_ready}
+use Rattle.wy_sound.proofs.typing_lemmas.AliasLemmas.{aliases_typed, numbered_types_have}
+use Rattle.wy_sound.proofs.typing_lemmas.PartLemmas.{parts_formed}
+use Rattle.wy_sound.proofs.typing_lemmas.RoutineLemmas.{routines_typed}
+use Rattle.wy_sound.proofs.typing_lemmas.TypeLemmas.{variables_typed}
 use Rattle.wy_sound.specs.Sound.{Shown}
-use Rattle.wy_sound.proofs.HeldLemmas.{no_way}
 use Rattle.wy_sound.proofs.CalleeLemmas.{called_in, taken_by, takes_of, text_given, number_given, given_well, rules_of, rules_written, allowed_of, offered}
 use Rattle.wy_sound.proofs.BodyLemmas.{body_keeps}
 

@@ -4,37 +4,37 @@ use Rattle.wy_value.specs.Datum.{Datum}
 use Rattle.wy_core.specs.Types.{Ty, NamedTy}
 use Rattle.wy_core.specs.CoreTree as tree
 use Rattle.wy_core.specs.CoreTree.{Expr, Param, Routine, Core, aliases_of, routines_of}
-use Rattle.wy_types.specs.Names.{names_in}
-use Rattle.wy_typing.specs.Programs.{types_of}
-use Rattle.wy_sem.specs.Meter.{Outcome, Done, Fault, More, Spent, ◌>>=◌}
-use Rattle.wy_sem.specs.Operations.{as_truth}
-use Rattle.wy_sem.specs.Expressions as sem
-use Rattle.wy_sem.specs.TypeTests.{set_if, forgiven, clause_setting}
-use Rattle.wy_sem.specs.Membership.{is_yes, is_member}
-use Rattle.wy_sem.specs.Precondition.{AreMembers, AreTrue, RoutineMeets, CalleeMeets, Meets}
-use Rattle.wy_sem.specs.Evaluation.{Callee, Declared, callee, entry_of, start, evaluate}
-use Rattle.wy_sem.proofs.MemberAnswers.{holds-says}
-use Rattle.wy_conditions.specs.Sizes.{exprs_in_list}
-use Rattle.wy_conditions.specs.Numbered.{Node, numbered_routine, numbered_core}
-use Rattle.wy_conditions.specs.Programs.{program_of}
-use Rattle.wy_sound_numbers.specs.Numbers.{place_of}
-use Rattle.wy_sound_numbers.proofs.ProgramLemmas.{numbers_nothing}
-use Rattle.wy_sound_expressions.specs.Truth.{Good}
-use Rattle.wy_sound_expressions.specs.Types.{is_in}
-use Rattle.wy_sound_clauses.specs.Clauses.{Passes, AllPass}
-use Rattle.wy_sound_kinds.specs.Bounded.{IsBounded, AllBounded}
-use Rattle.wy_sound_kinds.specs.Kinds.{AreIn}
-use Rattle.wy_sound_calls.specs.CallLaws.{ArgumentsIn, Leaves}
-use Rattle.wy_sound_members.specs.Members.{MeetFormulas}
-use Rattle.wy_sound_members.specs.Laws.{told_by}
-use Rattle.wy_sound_members.proofs.MemberLemmas.{some_meet}
+use Rattle.wy_sound_programs.specs.wy_types.Names.{names_in}
+use Rattle.wy_flow_spec.specs.typing.Programs.{types_of}
+use Rattle.wy_sound_programs.specs.wy_sem.Meter.{Outcome, Done, Fault, More, Spent, ◌>>=◌}
+use Rattle.wy_sound_programs.specs.wy_sem.Operations.{as_truth}
+use Rattle.wy_sound_programs.specs.wy_sem.Expressions as sem
+use Rattle.wy_sound_programs.specs.wy_sem.TypeTests.{set_if, forgiven, clause_setting}
+use Rattle.wy_sound_programs.specs.wy_sem.Membership.{is_yes, is_member}
+use Rattle.wy_sound_programs.specs.wy_sem.Precondition.{AreMembers, AreTrue, RoutineMeets, CalleeMeets, Meets}
+use Rattle.wy_sound_programs.specs.wy_sem.Evaluation.{Callee, Declared, callee, entry_of, start, evaluate}
+use Rattle.wy_sound_programs.proofs.wy_sem_proofs.MemberAnswers.{holds-says}
+use Rattle.wy_sound_programs.specs.wy_vc_spec.Sizes.{exprs_in_list}
+use Rattle.wy_sound_programs.specs.wy_vc_spec.Numbered.{Node, numbered_routine, numbered_core}
+use Rattle.wy_sound_programs.specs.wy_vc_spec.Programs.{program_of}
+use Rattle.wy_sound_programs.specs.wy_sound_terms.numbers.Numbers.{place_of}
+use Rattle.wy_sound_programs.proofs.wy_sound_terms_proofs.numbers_lemmas.ProgramLemmas.{numbers_nothing}
+use Rattle.wy_sound_types.specs.wy_sound_walks.expressions.Truth.{Good}
+use Rattle.wy_sound_types.specs.wy_sound_walks.expressions.Types.{is_in}
+use Rattle.wy_sound_types.specs.wy_sound_walks.clauses.Clauses.{Passes, AllPass}
+use Rattle.wy_sound_programs.specs.wy_sound_kinds.Bounded.{IsBounded, AllBounded}
+use Rattle.wy_sound_programs.specs.wy_sound_kinds.Kinds.{AreIn}
+use Rattle.wy_sound_programs.specs.wy_sound_statements.calls.CallLaws.{ArgumentsIn, Leaves}
+use Rattle.wy_sound_types.specs.members.Members.{MeetFormulas}
+use Rattle.wy_sound_types.specs.members.Laws.{told_by}
+use Rattle.wy_sound_types.proofs.members_lemmas.MemberLemmas.{some_meet}
 use Rattle.wy_sound_types.specs.Laws.{TypesHold}
 use Rattle.wy_sound_types.specs.Routines.{ParamsAmong}
 use Rattle.wy_sound_types.proofs.MembershipLemmas.{membership_said}
 use Rattle.wy_sound_types.proofs.RestLemmas.{read}
-use Rattle.wy_sound_routines.specs.Depths.{setting_at}
-use Rattle.wy_sound_routines.proofs.RunLemmas.{runs_sound}
-use Rattle.wy_sound_typing.specs.Typed.{TypedRoutine}
+use Rattle.wy_sound_types.specs.sound_routines.Depths.{setting_at}
+use Rattle.wy_sound_types.proofs.sound_routines_lemmas.RunLemmas.{runs_sound}
+use Rattle.wy_sound.specs.typing.Typed.{TypedRoutine}
 use Rattle.wy_sound.specs.Sound.{Shown, IsReturned, IsSound, ProgramsAreSound, MembershipAgrees}
 use Rattle.wy_sound.proofs.CalleeLemmas.{called_in, takes_of, taken_by, well_given}
 use Rattle.wy_sound.proofs.PlainLemmas.{callee_numbered, true_numbered, true_plain, member_same}

@@ -3,9 +3,9 @@ use Rattle.std.proofs.Common.{◌≡◌, ℕ, List, [], ◌∷◌, Bool, true, f
 use Rattle.std.specs.Prelude.{bytes_eq}
 use Rattle.std.proofs.lemmas.Bool.{and_parts, not-true}
 use Rattle.wy_core.specs.Types.{Ty, NullTy, BoolTy, IntTy, AnyTy, VoidTy, RecordTy, ArrayTy, UnionTy, InterTy, NotTy, NamedTy, NormalTy, FieldTys, NoFieldTys, MoreFieldTys}
-use Rattle.wy_conditions.specs.Values.{names_of}
-use Rattle.wy_sound_expressions.specs.Written.{IsNone, AreApart, IsWritten, AreWritten}
-use Rattle.wy_sound.proofs.HeldLemmas.{both_true}
+use Rattle.wy_sound_programs.specs.wy_vc_spec.Values.{names_of}
+use Rattle.wy_lemmas.proofs.Choices.{both_true}
+use Rattle.wy_sound_types.specs.wy_sound_walks.expressions.Written.{IsNone, AreApart, IsWritten, AreWritten}
 
 abbrev pub is_none : List ℕ → List (List ℕ) → Bool
 is_none name [] = true

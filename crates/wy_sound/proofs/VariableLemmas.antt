@@ -2,11 +2,11 @@
 use Rattle.std.proofs.Common.{◌≡◌, ℕ, suc, List, [], ◌∷◌, length, Bool, arith}
 use Rattle.wy_value.specs.Datum.{Datum}
 use Rattle.wy_core.specs.CoreTree.{Param}
-use Rattle.wy_types.specs.Names.{Declared}
-use Rattle.wy_typing.specs.Programs.{types_of}
-use Rattle.wy_sound_calls.specs.CallLaws.{ArgumentsIn}
-use Rattle.wy_sound_kinds.specs.Bounded.{AllBounded}
-use Rattle.wy_sound_kinds.specs.Kinds.{AreIn}
+use Rattle.wy_sound_programs.specs.wy_types.Names.{Declared}
+use Rattle.wy_flow_spec.specs.typing.Programs.{types_of}
+use Rattle.wy_sound_programs.specs.wy_sound_statements.calls.CallLaws.{ArgumentsIn}
+use Rattle.wy_sound_programs.specs.wy_sound_kinds.Bounded.{AllBounded}
+use Rattle.wy_sound_programs.specs.wy_sound_kinds.Kinds.{AreIn}
 use Rattle.wy_sound_programs.specs.Begun.{ParamsTyped}
 use Rattle.wy_sound_programs.specs.Entries.{Arrive}
 use Rattle.wy_sound_programs.specs.Once.{ParamsScoped}

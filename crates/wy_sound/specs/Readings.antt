@@ -5,9 +5,9 @@ use Rattle.wy_core.specs.Types.{Ty, NamedTy}
 use Rattle.wy_core.specs.CoreTree.{Core, aliases_of}
 use Rattle.wy_term.specs.Meaning.{Names}
 use Rattle.wy_term.specs.Condition.{Entry, Condition, AreUnfolded}
-use Rattle.wy_sem.specs.Membership.{is_member}
-use Rattle.wy_formed_conditions.specs.OwedConditions.{owed_conditions}
-use Rattle.wy_sound_kinds.specs.Bounded.{IsBounded}
+use Rattle.wy_sound_programs.specs.wy_sem.Membership.{is_member}
+use Rattle.wy_sound_programs.specs.wy_sound_terms.formed.OwedConditions.{owed_conditions}
+use Rattle.wy_sound_programs.specs.wy_sound_kinds.Bounded.{IsBounded}
 use Rattle.wy_sound.specs.Sound.{Shown}
 
 -- each listed type has, of the data that a program may hold, exactly those that are in it by the semantics

@@ -3,21 +3,21 @@ use Rattle.std.specs.Prelude.{◌≡◌, ℕ, List, true, Option, Some, None}
 use Rattle.wy_value.specs.Datum.{Datum}
 use Rattle.wy_core.specs.Types.{Ty, NamedTy}
 use Rattle.wy_core.specs.CoreTree.{Output, Routine, Core, aliases_of, routines_of}
-use Rattle.wy_formed.specs.Formed.{Formed}
-use Rattle.wy_typing.specs.Programs.{IsTyped}
+use Rattle.wy_core.specs.formed.Formed.{Formed}
+use Rattle.wy_flow_spec.specs.typing.Programs.{IsTyped}
 use Rattle.wy_assign.specs.Assigned.{IsAssigned}
 use Rattle.wy_term.specs.Meaning.{Names}
-use Rattle.wy_sem.specs.Meter.{Outcome, Done, Fault, More, Spent}
-use Rattle.wy_sem.specs.TypeTests.{set_if, clause_setting}
-use Rattle.wy_sem.specs.Membership.{is_member}
-use Rattle.wy_sem.specs.Precondition.{AreTrue, Meets}
-use Rattle.wy_sem.specs.Evaluation.{Declared, callee, entry_of, evaluate}
-use Rattle.wy_formed_conditions.specs.OwedConditions.{owed_conditions}
-use Rattle.wy_shown_conditions.specs.Certified.{AllHold}
-use Rattle.wy_sound_kinds.specs.Bounded.{IsBounded, AllBounded}
-use Rattle.wy_sound_members.specs.Members.{MeetFormulas}
-use Rattle.wy_sound_members.specs.Laws.{told_by}
-use Rattle.wy_sound_typing.specs.Sources.{Sourced}
+use Rattle.wy_sound_programs.specs.wy_sem.Meter.{Outcome, Done, Fault, More, Spent}
+use Rattle.wy_sound_programs.specs.wy_sem.TypeTests.{set_if, clause_setting}
+use Rattle.wy_sound_programs.specs.wy_sem.Membership.{is_member}
+use Rattle.wy_sound_programs.specs.wy_sem.Precondition.{AreTrue, Meets}
+use Rattle.wy_sound_programs.specs.wy_sem.Evaluation.{Declared, callee, entry_of, evaluate}
+use Rattle.wy_sound_programs.specs.wy_sound_terms.formed.OwedConditions.{owed_conditions}
+use Rattle.wy_sound_types.specs.wy_vc_laws.shown.Certified.{AllHold}
+use Rattle.wy_sound_programs.specs.wy_sound_kinds.Bounded.{IsBounded, AllBounded}
+use Rattle.wy_sound_types.specs.members.Members.{MeetFormulas}
+use Rattle.wy_sound_types.specs.members.Laws.{told_by}
+use Rattle.wy_sound.specs.typing.Sources.{Sourced}
 
 -- a program of which nothing is left to show
 pub record Shown (core : Core ℕ) (flow : List Ty) : Type 0 where

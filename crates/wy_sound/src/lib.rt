@@ -2,7 +2,11 @@
 //! meets its contract.
 #![tactic(auto)]
 
+pub mod acceptance;
 mod law;
+pub mod marks;
+pub mod sources;
+pub mod typing;
 
 pub use law::{
     accepted_programs_are_shown, conditions_tell_members, membership_agrees, programs_are_sound,

@@ -4,15 +4,16 @@ use Rattle.std.specs.Int.{int_rem_euclid}
 use Rattle.std.specs.Int.RustNames.{unsigned_abs}
 use Rattle.std.proofs.lemmas.Int.{ints}
 use Rattle.std.proofs.lemmas.Nat.{mod_below}
+use Rattle.wy_lemmas.proofs.Choices.{at_most_test}
 use Rattle.wy_value.specs.Datum.{Datum, Null, Truth, Whole, Array, Record, Data, no_items, item, Fields, no_fields, field}
 use Rattle.wy_value.specs.Numbers.{is_int}
+use Rattle.wy_value.specs.Seen.{data_of}
 use Rattle.wy_value.specs.Values.{length_of, IsValue, AreValues, AreValueFields}
 use Rattle.wy_value.specs.declared.bounds.TheConstants.{INT_MIN, INT_MAX}
-use Rattle.wy_sem.specs.Operations.{longest, nat_of, same_number, item_at, found_field, find, copies, is_index}
-use Rattle.wy_sem.specs.Expressions.{data_of}
-use Rattle.wy_sem.specs.TypeTests.{few_enough}
-use Rattle.wy_parts.specs.Items.{IsItem}
-use Rattle.wy_parts.specs.Fields.{value_at}
+use Rattle.wy_sound_walks.specs.wy_sem.Operations.{longest, nat_of, same_number, item_at, found_field, find, copies, is_index}
+use Rattle.wy_sound_walks.specs.wy_sem.TypeTests.{few_enough}
+use Rattle.wy_flow_spec.specs.wy_subtype_parts.Items.{IsItem}
+use Rattle.wy_flow_spec.specs.wy_subtype_parts.Fields.{value_at}
 use Rattle.wy_sound_kinds.specs.Laws.{ValuesAreBounded}
 use Rattle.wy_sound_kinds.specs.Bounded.{IsBounded, AreBounded, FieldsBounded, AllBounded}
 
@@ -102,9 +103,6 @@ field_bounded (field n x fs) name d h e = by (bytes_eq n name) e (λ q. field_bo
   by false q next = next q
 
 -- ---- values
-
-at_most_test : (a b : ℤ) → a ≤ℤ b → int_le a b ≡ true
-at_most_test a b h = grind (arith, ints)
 
 value_is_int : (z : ℤ) → (INT_MIN ≤ℤ z) × (z ≤ℤ INT_MAX) → is_int z ≡ true
 value_is_int z h = rw (at_most_test INT_MIN z h.0, at_most_test z INT_MAX h.1) refl

@@ -1,28 +1,30 @@
 -- Each answer of an expression is of its kind.
 use Rattle.std.proofs.Common.{◌≡◌, ℕ, ◌+◌, List, [], ◌∷◌, ◌++◌, length, Bool, true, false, Option, Some, ℤ, refl, sym, ap, ◌∙◌, subst, arith}
+use Rattle.wy_lemmas.proofs.Lists.{none_behind as nil_right}
 use Rattle.wy_value.specs.Datum.{Datum, Null, Truth, Whole, Array, Record, no_fields, field}
 use Rattle.wy_value.specs.Datum as datum
+use Rattle.wy_value.specs.Seen.{data_of}
 use Rattle.wy_value.specs.Values.{Rise, names_of}
 use Rattle.wy_core.specs.Types.{Ty}
 use Rattle.wy_core.specs.CoreTree.{Expr, NullExpr, BoolExpr, IntExpr, VarExpr, CallExpr, NegExpr, NotExpr, LenExpr, BinaryExpr, IsExpr, IndexExpr, FieldExpr, ListExpr, RepeatExpr, RecordExpr, QuantExpr, Exprs, NoExprs, MoreExprs, Fields, NoFields, MoreFields}
 use Rattle.wy_types.specs.Names.{Up}
-use Rattle.wy_environment.specs.Variables.{Environment, Changes, int_type, null_type, bool_type, type_of}
-use Rattle.wy_typing.specs.Outcomes.{Gives}
-use Rattle.wy_typing.specs.Contexts.{Program, Found, FoundAll, FoundFields}
-use Rattle.wy_typing.specs.Leaves.{found}
-use Rattle.wy_typing.specs.Operators.{right_side}
-use Rattle.wy_typing.specs.Expressions.{TypedExpr, TypedExprs, TypedFields, none_yet, no_field_yet, one_more, field_more}
-use Rattle.wy_sem.specs.Meter.{Meter, Done, Run, ◌>>=◌, turn}
-use Rattle.wy_sem.specs.Operations.{needed, negated, denied, length_result, operated, item_of, field_of, repeated}
-use Rattle.wy_sem.specs.Expressions.{Store, slot, put, Setting, node, quantified, data_of, eval, eval_all, eval_fields}
-use Rattle.wy_conditions.specs.Sizes.{exprs_in}
-use Rattle.wy_conditions.specs.Numbered.{Node, numbered, numbered_all, numbered_fields}
+use Rattle.wy_flow_spec.specs.environment.Variables.{Environment, Changes, int_type, null_type, bool_type, type_of}
+use Rattle.wy_flow_spec.specs.typing.Outcomes.{Gives}
+use Rattle.wy_flow_spec.specs.typing.Contexts.{Program, Found, FoundAll, FoundFields}
+use Rattle.wy_flow_spec.specs.typing.Leaves.{found}
+use Rattle.wy_flow_spec.specs.typing.Operators.{right_side}
+use Rattle.wy_flow_spec.specs.typing.Expressions.{TypedExpr, TypedExprs, TypedFields, none_yet, no_field_yet, one_more, field_more}
+use Rattle.wy_sound_walks.specs.wy_sem.Meter.{Meter, Done, Run, ◌>>=◌, turn}
+use Rattle.wy_sound_walks.specs.wy_sem.Operations.{needed, negated, denied, length_result, operated, item_of, field_of, repeated}
+use Rattle.wy_sound_walks.specs.wy_sem.Expressions.{Store, slot, put, Setting, node, quantified, eval, eval_all, eval_fields}
+use Rattle.wy_sound_walks.specs.wy_vc_spec.Sizes.{exprs_in}
+use Rattle.wy_sound_walks.specs.wy_vc_spec.Numbered.{Node, numbered, numbered_all, numbered_fields}
 use Rattle.wy_sound_kinds.specs.Bounded.{IsBounded, FieldsBounded, AllBounded}
 use Rattle.wy_sound_kinds.specs.Ready.{Rules, count_of, names_in, Ready, AllReady, FieldsReady}
 use Rattle.wy_sound_kinds.specs.Kinds.{HasValues, HasTypes, Kind, Rests}
 use Rattle.wy_sound_kinds.specs.Laws.{AnswersHaveKinds}
-use Rattle.wy_sound_frames.proofs.EveryLemmas.{Every, every_bind, every_map, every_told, every_of, every_spend, every_needed}
-use Rattle.wy_sound_kinds.proofs.TypeLemmas.{then_gives, given_is, nil_right, append_assoc, AllIn, FieldsIn}
+use Rattle.wy_sound_kinds.proofs.frames_lemmas.EveryLemmas.{Every, every_bind, every_map, every_told, every_of, every_spend, every_needed}
+use Rattle.wy_sound_kinds.proofs.TypeLemmas.{then_gives, given_is, append_assoc, AllIn, FieldsIn}
 use Rattle.wy_sound_kinds.proofs.OperatorLemmas.{as_found, kind_plain, kind_int, kind_bool, negated_kind, denied_kind, length_kind, operated_kind}
 use Rattle.wy_sound_kinds.proofs.NodeLemmas.{IsItsValue, its_value, IsSeen, test_kind, item_kind, field_kind, list_kind, record_kind, repeat_kind, quantified_kind, call_for, call_kind}
 

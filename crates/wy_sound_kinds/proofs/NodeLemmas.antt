@@ -1,34 +1,35 @@
 -- Answers of the other nodes, where those of their parts are of their kinds.
 use Rattle.std.proofs.Common.{◌≡◌, inl, inr, ℕ, zero, suc, ◌+◌, ◌-◌, ◌^◌, ◌<◌, ◌≤◌, List, [], ◌∷◌, ◌++◌, length, Bool, true, false, not, ◌&&◌, Option, Some, None, ℤ, pos, ◌+ℤ◌, int_le, refl, sym, ap, ◌∙◌, subst}
 use Rattle.std.specs.Prelude.{slice_get}
+use Rattle.wy_lemmas.proofs.Choices.{both_true as two_true, off as true_false}
 use Rattle.wy_value.specs.Datum.{Datum, Null, Truth, Whole, Array, Record, Data, Fields}
 use Rattle.wy_core.specs.Types.{Ty, ArrayTy, RecordTy, InterTy, NotTy}
 use Rattle.wy_core.specs.CoreSeen.{field_tys_of}
 use Rattle.wy_core.specs.CoreTree.{Expr, NullExpr, BoolExpr, IntExpr, VarExpr, CallExpr, NegExpr, NotExpr, LenExpr, BinaryExpr, IsExpr, IndexExpr, FieldExpr, ListExpr, RepeatExpr, RecordExpr, QuantExpr}
 use Rattle.wy_term.specs.declared.cond.CondKind.TheVariants as kind
 use Rattle.wy_types.specs.Names.{Declared, Up, Down}
-use Rattle.wy_types.proofs.TruthLemmas.{two_true}
-use Rattle.wy_environment.specs.Variables.{Environment, Changes, int_type, bool_type}
-use Rattle.wy_typing.specs.Outcomes.{Gives}
-use Rattle.wy_typing.specs.Contexts.{Program, Signature, Found, FoundAll, FoundFields}
-use Rattle.wy_typing.specs.Leaves.{found}
-use Rattle.wy_typing.specs.Narrowing.{IsTest, IsVariable}
-use Rattle.wy_typing.specs.Parts.{union_all, ListOf, RepeatOf, RecordOf, IndexOf, FieldOf}
-use Rattle.wy_typing.specs.Calls.{Fit, FitSignature, FitCall, ResultOf, GivenBy, CallOf}
-use Rattle.wy_sem.specs.Meter.{Meter, Outcome, Done, Run, ◌>>=◌, check, choose}
-use Rattle.wy_sem.specs.Operations.{longest, nat_of, agrees, as_truth, as_number, needed, item_at, find, copies, is_index, indexed, item_of, field_of, repeated, numbers}
-use Rattle.wy_sem.specs.Expressions.{Store, slot, Setting, node as node_of, span, each, quantified, data_of, eval}
-use Rattle.wy_conditions.specs.Numbered.{Node, numbered}
-use Rattle.wy_sound_parts.proofs.NormLemmas.{norms_same}
-use Rattle.wy_sound_parts.proofs.ItemLemmas.{items_are_in}
-use Rattle.wy_sound_parts.proofs.ValueLemmas.{values_are_in}
+use Rattle.wy_flow_spec.specs.environment.Variables.{Environment, Changes, int_type, bool_type}
+use Rattle.wy_flow_spec.specs.typing.Outcomes.{Gives}
+use Rattle.wy_flow_spec.specs.typing.Contexts.{Program, Signature, Found, FoundAll, FoundFields}
+use Rattle.wy_flow_spec.specs.typing.Leaves.{found}
+use Rattle.wy_flow_spec.specs.typing.Narrowing.{IsTest, IsVariable}
+use Rattle.wy_flow_spec.specs.typing.Parts.{union_all, ListOf, RepeatOf, RecordOf, IndexOf, FieldOf}
+use Rattle.wy_flow_spec.specs.typing.Calls.{Fit, FitSignature, FitCall, ResultOf, GivenBy, CallOf}
+use Rattle.wy_sound_walks.specs.wy_sem.Meter.{Meter, Outcome, Done, Run, ◌>>=◌, check, choose}
+use Rattle.wy_sound_walks.specs.wy_sem.Operations.{longest, nat_of, agrees, as_truth, as_number, needed, item_at, find, copies, is_index, indexed, item_of, field_of, repeated, numbers}
+use Rattle.wy_sound_walks.specs.wy_sem.Expressions.{Store, slot, Setting, node as node_of, span, each, quantified, eval}
+use Rattle.wy_sound_walks.specs.wy_vc_spec.Numbered.{Node, numbered}
+use Rattle.wy_types_laws.proofs.parts_lemmas.NormLemmas.{norms_same}
+use Rattle.wy_types_laws.proofs.parts_lemmas.ItemLemmas.{items_are_in}
+use Rattle.wy_types_laws.proofs.parts_lemmas.ValueLemmas.{values_are_in}
 use Rattle.wy_sound_kinds.specs.Bounded.{IsBounded, AllBounded}
 use Rattle.wy_sound_kinds.specs.Ready.{Rules}
 use Rattle.wy_sound_kinds.specs.Kinds.{HasTypes, Kind, AreIn, AreArguments, IsOfResult, IsResult, AreFor, Rests}
-use Rattle.wy_sound_frames.proofs.EveryLemmas.{Every, every_bind, every_map, every_told, every_spend, every_check, every_choose, every_number, every_truth, every_items, every_fields, every_needed}
+use Rattle.wy_sound_kinds.proofs.frames_lemmas.EveryLemmas.{Every, every_bind, every_map, every_told, every_spend, every_check, every_choose, every_number, every_truth, every_items, every_fields, every_needed}
 use Rattle.wy_sound_kinds.proofs.DatumLemmas.{index_below, item_is, item_bounded, copies_few, copies_bounded, data_few, data_bounded, found_at, field_bounded}
 use Rattle.wy_sound_kinds.proofs.TypeLemmas.{then_gives, given_is, types_nothing, types_one, AllIn, list_in, copies_in, FieldsIn, record_in}
 use Rattle.wy_sound_kinds.proofs.OperatorLemmas.{as_found, kind_plain, kind_truth, kind_bool, every_numbers}
+use Rattle.wy_value.specs.Seen.{data_of}
 
 -- ---- the value of a variable that is tested
 
@@ -74,14 +75,11 @@ not_of : (b : Bool) → (b ≡ true → ⊥) → not b ≡ true
 not_of true h = absurd (h refl)
 not_of false h = refl
 
-true_false : true ≡ false → ⊥
-true_false e = absurd cc
-
-same_some : (a b : Datum) → ◌≡◌ {A = Option Datum} (Some a) (Some b) → a ≡ b
+pub same_some : (a b : Datum) → ◌≡◌ {A = Option Datum} (Some a) (Some b) → a ≡ b
 same_some a b p = cc
 
 -- the arguments fit the parameters
-fit_in : (names : List Declared) (at : ℕ) (u : Unit {0}) (ts params : List Ty) (vs : List Datum) → Fit names at ts params (Gives u) → AllIn names ts vs → AreIn names params vs
+pub fit_in : (names : List Declared) (at : ℕ) (u : Unit {0}) (ts params : List Ty) (vs : List Datum) → Fit names at ts params (Gives u) → AllIn names ts vs → AreIn names params vs
 fit_in names at u [] [] [] h a = tt
 fit_in names at u [] (q ∷ params) [] h a = tt
 fit_in names at u [] [] (v ∷ vs) h a = absurd a

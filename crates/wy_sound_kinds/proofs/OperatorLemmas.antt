@@ -1,6 +1,7 @@
 -- Answers of operators.
 use Rattle.std.proofs.Common.{◌≡◌, inl, inr, ℕ, List, [], ◌∷◌, ◌++◌, Bool, true, false, not, ◌&&◌, ◌||◌, ℤ, pos, neg_ℤ, ◌+ℤ◌, ◌-ℤ◌, ◌*ℤ◌, int_le, int_lt, refl, sym, ap, ◌∙◌, subst}
 use Rattle.std.specs.Int.{int_div_euclid, int_rem_euclid}
+use Rattle.wy_lemmas.proofs.Choices.{false_true, no_call as true_false}
 use Rattle.wy_value.specs.Datum.{Datum, Null, Truth, Whole, Array, Record}
 use Rattle.wy_value.specs.Numbers.{is_int}
 use Rattle.wy_value.specs.Values.{length_of}
@@ -10,18 +11,18 @@ use Rattle.wy_core.specs.declared.expressions.Op.TheVariants.{Add, Sub, Mul, Div
 use Rattle.wy_term.specs.declared.cond.CondKind.TheVariants as kind
 use Rattle.wy_types.specs.Names.{Declared, Up}
 use Rattle.wy_types.specs.Recursion.{RecurThroughParts}
-use Rattle.wy_environment.specs.Variables.{Environment, Changes, int_type, bool_type}
-use Rattle.wy_typing.specs.Outcomes.{Gives}
-use Rattle.wy_typing.specs.Contexts.{Found}
-use Rattle.wy_typing.specs.Leaves.{found}
-use Rattle.wy_typing.specs.Narrowing.{with_variables}
-use Rattle.wy_typing.specs.Operators.{Binary, right_side}
-use Rattle.wy_sem.specs.Meter.{Meter, Done, Run, ◌>>=◌, check, choose}
-use Rattle.wy_sem.specs.Operations.{same, same_number, as_number, as_truth, as_items, in_range, negated, denied, length_result, numbers, applied, second, operated}
-use Rattle.wy_sem.specs.Expressions.{Store}
+use Rattle.wy_flow_spec.specs.environment.Variables.{Environment, Changes, int_type, bool_type}
+use Rattle.wy_flow_spec.specs.typing.Outcomes.{Gives}
+use Rattle.wy_flow_spec.specs.typing.Contexts.{Found}
+use Rattle.wy_flow_spec.specs.typing.Leaves.{found}
+use Rattle.wy_flow_spec.specs.typing.Narrowing.{with_variables}
+use Rattle.wy_flow_spec.specs.typing.Operators.{Binary, right_side}
+use Rattle.wy_sound_walks.specs.wy_sem.Meter.{Meter, Done, Run, ◌>>=◌, check, choose}
+use Rattle.wy_sound_walks.specs.wy_sem.Operations.{same, same_number, as_number, as_truth, as_items, in_range, negated, denied, length_result, numbers, applied, second, operated}
+use Rattle.wy_sound_walks.specs.wy_sem.Expressions.{Store}
 use Rattle.wy_sound_kinds.specs.Bounded.{IsBounded}
 use Rattle.wy_sound_kinds.specs.Kinds.{HasTypes, Kind}
-use Rattle.wy_sound_frames.proofs.EveryLemmas.{Every, every_bind, every_map, every_check, every_choose, every_number, every_truth, every_items}
+use Rattle.wy_sound_kinds.proofs.frames_lemmas.EveryLemmas.{Every, every_bind, every_map, every_check, every_choose, every_number, every_truth, every_items}
 use Rattle.wy_sound_kinds.proofs.DatumLemmas.{length_is_int, rest_bounded}
 use Rattle.wy_sound_kinds.proofs.TypeLemmas.{then_gives, given_is, types_nothing, types_more, either_all}
 
@@ -30,12 +31,6 @@ every_numbers at v w next m P h = every_number at v (λ x. as_number at w (λ y.
 
 truth_is : (a b : Bool) → Truth a ≡ Truth b → a ≡ b
 truth_is a b e = cc
-
-false_true : {X : Type 0} → false ≡ true → X
-false_true e = absurd cc
-
-true_false : {X : Type 0} → true ≡ false → X
-true_false e = absurd cc
 
 module _ (names : List Declared) (env : Environment) (over : Changes) (seen : ℕ → Bool) (s : Store) where
   abbrev pub K : Found → Datum → Type 0

@@ -1,25 +1,26 @@
 -- Types of variables under changes, and what readings of types say of data.
 use Rattle.std.specs.Str.{bytes_eq}
 use Rattle.std.proofs.Common.{◌≡◌, ◌⊎◌, inl, inr, ℕ, zero, suc, ◌+◌, ◌<◌, List, [], ◌∷◌, ◌++◌, length, Bool, true, false, cond, not, ◌&&◌, ◌||◌, ◌==◌, eqb-true, Option, Some, None, ℤ, refl, sym, ap, ◌∙◌, subst, arith}
+use Rattle.wy_lemmas.proofs.Choices.{or_left, both_true as two_true, or_right, apart_of}
+use Rattle.wy_lemmas.proofs.Lists.{bytes_self, none_behind as nil_right}
+pub use Rattle.wy_sound_kinds.proofs.frames_lemmas.FrameLemmas.{put_other}
 use Rattle.wy_value.specs.Datum.{Datum, Null, Truth, Whole, Array, Record, Data, no_items, item, Fields, no_fields, field}
+use Rattle.wy_value.specs.Seen.{data_of}
 use Rattle.wy_value.specs.Values.{names_of}
 use Rattle.wy_value.specs.Numbers.{is_int}
 use Rattle.wy_core.specs.Types.{Ty, IntTy, BoolTy, ArrayTy, UnionTy, RecordTy}
 use Rattle.wy_core.specs.CoreSeen.{field_tys_of}
 use Rattle.wy_types.specs.Names.{Declared, Up, each_in_ty, fields_in_tys, item_readers, field_readers}
 use Rattle.wy_types.specs.Recursion.{RecurThroughParts}
-use Rattle.wy_types.proofs.TruthLemmas.{two_true}
-use Rattle.wy_types.proofs.AskLemmas.{bytes_self}
-use Rattle.wy_subtype.proofs.MarkLemmas.{or_left, or_right}
-use Rattle.wy_environment.specs.Variables.{Environment, Changes, void_type, int_type, latest, with_change, type_of}
-use Rattle.wy_typing.specs.Outcomes.{Outcome, Gives, Fails, Then, gave, stopped}
-use Rattle.wy_typing.specs.Joins.{JoinedType}
-use Rattle.wy_typing.specs.Narrowing.{EitherAll, Either, with_variables}
-use Rattle.wy_typing.specs.Parts.{union_with, union_all}
-use Rattle.wy_typing.proofs.SingleLemmas.{given_or}
-use Rattle.wy_sem.specs.Operations.{copies}
-use Rattle.wy_sem.specs.Expressions.{Store, slot, put, data_of}
-use Rattle.wy_sound_parts.proofs.NormLemmas.{norms_same}
+use Rattle.wy_flow_spec.specs.environment.Variables.{Environment, Changes, void_type, int_type, latest, with_change, type_of}
+use Rattle.wy_flow_spec.specs.typing.Outcomes.{Outcome, Gives, Fails, Then, gave, stopped}
+use Rattle.wy_flow_spec.specs.typing.Joins.{JoinedType}
+use Rattle.wy_flow_spec.specs.typing.Narrowing.{EitherAll, Either, with_variables}
+use Rattle.wy_flow_spec.specs.typing.Parts.{union_with, union_all}
+use Rattle.wy_flow_spec.proofs.typing_lemmas.SingleLemmas.{given_or}
+use Rattle.wy_sound_walks.specs.wy_sem.Operations.{copies}
+use Rattle.wy_sound_walks.specs.wy_sem.Expressions.{Store, slot, put}
+use Rattle.wy_types_laws.proofs.parts_lemmas.NormLemmas.{norms_same}
 use Rattle.wy_sound_kinds.specs.Bounded.{IsBounded}
 use Rattle.wy_sound_kinds.specs.Ready.{with_one}
 use Rattle.wy_sound_kinds.specs.Kinds.{HasValues, HasTypes}
@@ -43,10 +44,6 @@ pub given_is : {X : Type 0} (x y : X) → Gives x ≡ Gives y → x ≡ y
 given_is x y e = ap (given_or x) e
 
 -- ---- lists
-
-pub nil_right : {X : Type 0} (xs : List X) → xs ++ [] ≡ xs
-nil_right [] = refl
-nil_right (x ∷ xs) = ap (λ l. x ∷ l) (nil_right xs)
 
 pub append_assoc : {X : Type 0} (xs ys zs : List X) → (xs ++ ys) ++ zs ≡ xs ++ (ys ++ zs)
 append_assoc [] ys zs = refl
@@ -118,19 +115,6 @@ pub put_same : (s : Store) (x : ℕ) (v : Option Datum) → x < length s → slo
 put_same [] x v lt = absurd (omega arith)
 put_same (o ∷ s) zero v lt = refl
 put_same (o ∷ s) (suc x) v lt = put_same s x v (omega arith)
-
-pub put_other : (s : Store) (x : ℕ) (v : Option Datum) (y : ℕ) → (x ≡ y → ⊥) → slot (put s x v) y ≡ slot s y
-put_other [] x v y h = refl
-put_other (o ∷ s) zero v zero h = absurd (h refl)
-put_other (o ∷ s) zero v (suc y) h = refl
-put_other (o ∷ s) (suc x) v zero h = refl
-put_other (o ∷ s) (suc x) v (suc y) h = put_other s x v y (λ e. h (ap suc e))
-
-eqb_self : (n : ℕ) → (n == n) ≡ true
-eqb_self n = search (arith)
-
-pub apart_of : (x y : ℕ) → (x == y) ≡ false → x ≡ y → ⊥
-apart_of x y q e = let r : (x == y) ≡ true = subst (λ (z : ℕ). (x == z) ≡ true) e (eqb_self x) in absurd (cc (q, r))
 
 module _ (seen : ℕ → Bool) (s : Store) (x : ℕ) (i : ℤ) (lt : x < length s) where
   abbrev bound : Store

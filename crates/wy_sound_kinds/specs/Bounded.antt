@@ -3,7 +3,7 @@ use Rattle.std.specs.Prelude.{◌≡◌, List, [], ◌∷◌, true}
 use Rattle.wy_value.specs.Datum.{Datum, Null, Truth, Whole, Array, Record, Data, no_items, item, Fields, no_fields, field}
 use Rattle.wy_value.specs.Values.{Rise, names_of}
 use Rattle.wy_value.specs.Numbers.{is_int}
-use Rattle.wy_sem.specs.TypeTests.{few_enough}
+use Rattle.wy_sound_walks.specs.wy_sem.TypeTests.{few_enough}
 
 abbrev mutual
   -- its numbers are `int`s, its arrays are no longer than an array may be, and the names of its records rise

@@ -4,11 +4,11 @@ use Rattle.wy_value.specs.Datum.{Datum, Truth}
 use Rattle.wy_core.specs.Types.{Ty}
 use Rattle.wy_types.specs.Names.{Declared, Up, Down}
 use Rattle.wy_types.specs.Recursion.{RecurThroughParts}
-use Rattle.wy_environment.specs.Variables.{Environment, Changes, type_of}
-use Rattle.wy_typing.specs.Contexts.{Program, Signature, Found}
-use Rattle.wy_sem.specs.Meter.{Meter, Done}
-use Rattle.wy_sem.specs.Expressions.{Store, slot, Setting}
-use Rattle.wy_conditions.specs.Numbered.{Node}
+use Rattle.wy_flow_spec.specs.environment.Variables.{Environment, Changes, type_of}
+use Rattle.wy_flow_spec.specs.typing.Contexts.{Program, Signature, Found}
+use Rattle.wy_sound_walks.specs.wy_sem.Meter.{Meter, Done}
+use Rattle.wy_sound_walks.specs.wy_sem.Expressions.{Store, slot, Setting}
+use Rattle.wy_sound_walks.specs.wy_vc_spec.Numbered.{Node}
 use Rattle.wy_sound_kinds.specs.Bounded.{IsBounded, AllBounded}
 use Rattle.wy_sound_kinds.specs.Ready.{Rules}
 

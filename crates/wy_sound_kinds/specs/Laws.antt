@@ -4,13 +4,13 @@ use Rattle.wy_value.specs.Datum.{Datum}
 use Rattle.wy_value.specs.Values.{IsValue}
 use Rattle.wy_core.specs.Types.{Ty}
 use Rattle.wy_core.specs.CoreTree.{Expr}
-use Rattle.wy_environment.specs.Variables.{Environment, Changes}
-use Rattle.wy_typing.specs.Outcomes.{Gives}
-use Rattle.wy_typing.specs.Contexts.{Program, Found}
-use Rattle.wy_typing.specs.Expressions.{TypedExpr}
-use Rattle.wy_sem.specs.Meter.{Meter, Done}
-use Rattle.wy_sem.specs.Expressions.{Store, Setting, eval}
-use Rattle.wy_conditions.specs.Numbered.{Node, numbered}
+use Rattle.wy_flow_spec.specs.environment.Variables.{Environment, Changes}
+use Rattle.wy_flow_spec.specs.typing.Outcomes.{Gives}
+use Rattle.wy_flow_spec.specs.typing.Contexts.{Program, Found}
+use Rattle.wy_flow_spec.specs.typing.Expressions.{TypedExpr}
+use Rattle.wy_sound_walks.specs.wy_sem.Meter.{Meter, Done}
+use Rattle.wy_sound_walks.specs.wy_sem.Expressions.{Store, Setting, eval}
+use Rattle.wy_sound_walks.specs.wy_vc_spec.Numbered.{Node, numbered}
 use Rattle.wy_sound_kinds.specs.Bounded.{IsBounded}
 use Rattle.wy_sound_kinds.specs.Ready.{Rules, Ready}
 use Rattle.wy_sound_kinds.specs.Kinds.{HasValues, HasTypes, Kind, Rests}

@@ -4,6 +4,9 @@
 //! `specs/Kinds` what is known of a store by the types of its variables and of an answer by the type of its expression.
 #![tactic(auto)]
 
+pub mod fits;
+pub mod frames;
 mod law;
+pub mod suits;
 
 pub use law::{answers_have_kinds, values_are_bounded};

@@ -1,37 +1,35 @@
 -- The store at the entry of a typed body is as typing has it.
 use Rattle.std.proofs.Common.{◌≡◌, ℕ, zero, suc, List, [], ◌∷◌, length, Bool, true, Option, Some, None, refl, sym, ap, ◌∙◌, subst}
+use Rattle.wy_lemmas.proofs.Choices.{false_true as no_truth}
+use Rattle.wy_sem.proofs.SharedLemmas.{unset_length}
 use Rattle.wy_value.specs.Datum.{Datum}
 use Rattle.wy_core.specs.Types.{Ty}
 use Rattle.wy_core.specs.CoreTree.{Param}
 use Rattle.wy_types.specs.Names.{Declared}
 use Rattle.wy_types.specs.Recursion.{RecurThroughParts}
-use Rattle.wy_environment.specs.Slots.{put_slot}
-use Rattle.wy_environment.specs.Variables.{Environment, nothing_known, given}
-use Rattle.wy_typing.specs.Outcomes.{Gives}
-use Rattle.wy_typing.specs.Contexts.{Program}
-use Rattle.wy_typing.specs.States.{State}
-use Rattle.wy_typing.specs.Programs.{WithVariable, WithParams, declared_params}
+use Rattle.wy_sound_statements.specs.wy_flow_spec.environment.Slots.{put_slot}
+use Rattle.wy_sound_statements.specs.wy_flow_spec.environment.Variables.{Environment, nothing_known, given}
+use Rattle.wy_sound_statements.specs.wy_flow_spec.typing.Outcomes.{Gives}
+use Rattle.wy_sound_statements.specs.wy_flow_spec.typing.Contexts.{Program}
+use Rattle.wy_sound_statements.specs.wy_flow_spec.typing.States.{State}
+use Rattle.wy_sound_statements.specs.wy_flow_spec.typing.Programs.{WithVariable, WithParams, declared_params}
 use Rattle.wy_sem.specs.Expressions.{Store, slot, put}
 use Rattle.wy_sem.specs.TypeTests.{unset}
 use Rattle.wy_sem.specs.Evaluation.{types_of, bound, entry_of}
-use Rattle.wy_conditions.specs.Numbered.{Node}
-use Rattle.wy_conditions.specs.Spots.{Spot, spot, is_set, mark}
-use Rattle.wy_conditions.specs.Statements.{Body}
-use Rattle.wy_sound_expressions.specs.Types.{is_in}
-use Rattle.wy_sound_parts.proofs.NormLemmas.{norms_same}
-use Rattle.wy_sound_kinds.proofs.TypeLemmas.{then_gives, given_is}
+use Rattle.wy_vc_spec.specs.Numbered.{Node}
+use Rattle.wy_vc_spec.specs.Spots.{Spot, spot, is_set, mark}
+use Rattle.wy_vc_spec.specs.Statements.{Body}
+use Rattle.wy_sound_statements.specs.wy_sound_walks.expressions.Types.{is_in}
+use Rattle.wy_sound_statements.proofs.wy_types_laws_proofs.parts_lemmas.NormLemmas.{norms_same}
+use Rattle.wy_sound_statements.proofs.wy_sound_kinds_proofs.TypeLemmas.{then_gives, given_is}
 use Rattle.wy_sound_programs.specs.Scopes.{Scope}
 use Rattle.wy_sound_programs.specs.Once.{routine_scope, ParamsScoped}
 use Rattle.wy_sound_programs.specs.Typed.{Stands, Holds, nothing_kept}
 use Rattle.wy_sound_programs.specs.Entries.{marked_params, Arrive, BodiesBegin}
-use Rattle.wy_sound_programs.proofs.SlotLemmas.{no_truth, slot_put, slot_other}
+use Rattle.wy_sound_programs.proofs.SlotLemmas.{slot_put, slot_other}
 use Rattle.wy_sound_programs.proofs.PartLemmas.{Normal}
 use Rattle.wy_sound_programs.proofs.StaticLemmas.{put_stands}
 use Rattle.wy_sound_programs.proofs.StoreLemmas.{put_holds}
-
-unset_length : (names : List (List ℕ)) → length (unset names) ≡ length names
-unset_length [] = refl
-unset_length (n ∷ ns) = ap suc (unset_length ns)
 
 unset_slot : (names : List (List ℕ)) (x : ℕ) (d : Datum) → slot (unset names) x ≡ Some d → ⊥
 unset_slot [] x d e = absurd cc

@@ -1,6 +1,7 @@
 -- The names at the entry of a body; and bodies keep their contracts.
 use Rattle.std.proofs.Common.{◌≡◌, ◌⊎◌, inl, inr, ℕ, suc, ◌≤◌, List, [], ◌∷◌, length, Bool, true, false, ◌||◌, ◌==◌, pos, Some, refl, sym, ap, ◌∙◌, subst, arith}
 use Rattle.std.proofs.lemmas.Bool.{or_right}
+use Rattle.wy_lemmas.proofs.Choices.{eqb_self, apart_of, false_true as no_truth}
 use Rattle.wy_value.specs.Datum.{Datum, Null}
 use Rattle.wy_core.specs.Types.{Ty}
 use Rattle.wy_core.specs.CoreTree.{Param}
@@ -12,45 +13,42 @@ use Rattle.wy_sem.specs.Statements as run
 use Rattle.wy_sem.specs.Statements.{type_at}
 use Rattle.wy_sem.specs.Evaluation.{types_of, bound, entry_of, frame_of, result_of}
 use Rattle.wy_sem.specs.Meter.{◌>>=◌}
-use Rattle.wy_conditions.specs.Making.{val_name}
-use Rattle.wy_conditions.specs.Numbered.{Node}
-use Rattle.wy_conditions.specs.Variables as variables
-use Rattle.wy_conditions.specs.Values.{Setting, word_at, variable, named_in}
-use Rattle.wy_conditions.specs.Owed.{assume}
-use Rattle.wy_conditions.specs.Clauses.{in_type, assume_clauses}
-use Rattle.wy_conditions.specs.Spots.{Spot, spot, is_set, mark, assign, with_hyps}
-use Rattle.wy_conditions.specs.Statements.{Renewed, exec_all}
-use Rattle.wy_conditions.specs.Programs.{name_params, assume_params, enter, body_of, body_conditions}
-use Rattle.wy_formed_conditions.proofs.MakingLemmas.{val_name_sorted}
-use Rattle.wy_formed_conditions.proofs.ValueLemmas.{no_data, variable_sorted}
-use Rattle.wy_sound_expressions.specs.Names.{Agree, Known, Means, Stand, also}
-use Rattle.wy_sound_expressions.specs.Truth.{AreTrueBy}
-use Rattle.wy_sound_expressions.specs.Types.{is_in}
-use Rattle.wy_sound_expressions.specs.Written.{IsWritten}
-use Rattle.wy_sound_expressions.specs.Laws.{NamesTold}
-use Rattle.wy_sound_expressions.proofs.NameLemmas.{agree_refl, agree_less, means_later, stand_later, right_later, stand_put}
-use Rattle.wy_sound_expressions.proofs.AssumeLemmas.{assumed_true}
-use Rattle.wy_sound_expressions.proofs.CallGrows.{in_type_grows, assumed_grow}
-use Rattle.wy_sound_expressions.proofs.GoodLemmas.{good_weaken}
-use Rattle.wy_sound_expressions.proofs.LawLemmas.{types_told}
-use Rattle.wy_sound_clauses.proofs.ClauseLemmas.{clauses_assumed}
-use Rattle.wy_sound_joins.specs.Points.{At, Depends}
-use Rattle.wy_sound_joins.proofs.DatumLemmas.{agree_datum, datum_at}
-use Rattle.wy_sound_points.proofs.SetLemmas.{Point, point_more, with_point, assign_point, as_point}
-use Rattle.wy_sound_calls.specs.CallLaws.{with_params, nothing_seen, Leaves}
-use Rattle.wy_sound_kinds.specs.Kinds.{HasValues}
+use Rattle.wy_vc_spec.specs.Making.{val_name}
+use Rattle.wy_vc_spec.specs.Numbered.{Node}
+use Rattle.wy_vc_spec.specs.Variables as variables
+use Rattle.wy_vc_spec.specs.Values.{Setting, word_at, variable, named_in}
+use Rattle.wy_vc_spec.specs.Owed.{assume}
+use Rattle.wy_vc_spec.specs.Clauses.{in_type, assume_clauses}
+use Rattle.wy_vc_spec.specs.Spots.{Spot, spot, is_set, mark, assign, with_hyps}
+use Rattle.wy_vc_spec.specs.Statements.{Renewed, exec_all}
+use Rattle.wy_vc_spec.specs.Programs.{name_params, assume_params, enter, body_of, body_conditions}
+use Rattle.wy_sound_statements.proofs.wy_sound_terms_proofs.formed_lemmas.MakingLemmas.{val_name_sorted}
+use Rattle.wy_sound_statements.proofs.wy_sound_terms_proofs.formed_lemmas.ValueLemmas.{no_data, variable_sorted}
+use Rattle.wy_sound_statements.specs.wy_sound_walks.expressions.Names.{Agree, Known, Means, Stand, also}
+use Rattle.wy_sound_statements.specs.wy_sound_walks.expressions.Truth.{AreTrueBy}
+use Rattle.wy_sound_statements.specs.wy_sound_walks.expressions.Types.{is_in}
+use Rattle.wy_sound_statements.specs.wy_sound_walks.expressions.Written.{IsWritten}
+use Rattle.wy_sound_statements.specs.wy_sound_walks.expressions.Laws.{NamesTold}
+use Rattle.wy_sound_statements.proofs.wy_sound_walks_proofs.expressions_lemmas.NameLemmas.{agree_refl, agree_less, means_later, stand_later, right_later, stand_put}
+use Rattle.wy_sound_statements.proofs.wy_sound_walks_proofs.expressions_lemmas.AssumeLemmas.{assumed_true}
+use Rattle.wy_sound_statements.proofs.wy_sound_walks_proofs.expressions_lemmas.CallGrows.{in_type_grows, assumed_grow}
+use Rattle.wy_sound_statements.proofs.wy_sound_walks_proofs.expressions_lemmas.GoodLemmas.{good_weaken}
+use Rattle.wy_sound_statements.proofs.wy_sound_walks_proofs.expressions_lemmas.LawLemmas.{types_told}
+use Rattle.wy_sound_statements.proofs.wy_sound_walks_proofs.clauses_lemmas.ClauseLemmas.{clauses_assumed}
+use Rattle.wy_sound_statements.specs.wy_sound_walks.joins.Points.{At, Depends}
+use Rattle.wy_sound_statements.proofs.wy_sound_walks_proofs.joins_lemmas.DatumLemmas.{agree_datum, datum_at}
+use Rattle.wy_sound_statements.proofs.wy_sound_walks_proofs.points_lemmas.SetLemmas.{Point, point_more, with_point, assign_point, as_point}
+use Rattle.wy_sound_statements.specs.calls.CallLaws.{with_params, nothing_seen, Leaves}
+use Rattle.wy_sound_statements.specs.wy_sound_kinds.Kinds.{HasValues}
 use Rattle.wy_sound_statements.specs.Ends.{AreDeclared, Rests}
 use Rattle.wy_sound_statements.proofs.PlaceLemmas.{val_terms}
 use Rattle.wy_sound_programs.specs.Entries.{marked_params}
 use Rattle.wy_sound_programs.specs.Begun.{begun, ParamsTyped, BodiesAreBegun, BodiesKeep}
-use Rattle.wy_sound_programs.proofs.SlotLemmas.{no_truth, same_or_apart, apart_of, mark_same, mark_other}
+use Rattle.wy_sound_programs.proofs.SlotLemmas.{same_or_apart, mark_same, mark_other}
 use Rattle.wy_sound_programs.proofs.EntryLemmas.{named_set, assumed_set}
 use Rattle.wy_sound_programs.proofs.BodyLemmas.{bodies_right}
 
 -- ---- marks of parameters
-
-eqb_self : (n : ℕ) → (n == n) ≡ true
-eqb_self n = search (arith)
 
 -- a parameter that is marked is seen
 one_seen : (set : List Bool) (seen : ℕ → Bool) (v : ℕ) → ((x : ℕ) → is_set set x ≡ true → seen x ≡ true) → (x : ℕ) → is_set (mark set v true) x ≡ true → also v seen x ≡ true

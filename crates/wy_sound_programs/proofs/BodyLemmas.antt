@@ -12,22 +12,22 @@ use Rattle.wy_sem.specs.TypeTests.{Test}
 use Rattle.wy_sem.specs.Statements as run
 use Rattle.wy_sem.specs.Statements.{Exit, Went, Broke, Continued, Gave, Frame}
 use Rattle.wy_sem.specs.Evaluation.{entry_of, frame_of, result_of, result_given}
-use Rattle.wy_conditions.specs.Numbered.{Node}
-use Rattle.wy_conditions.specs.Variables.{Vars}
-use Rattle.wy_conditions.specs.Walks.{Program}
-use Rattle.wy_conditions.specs.Spots.{Spot, Flow}
-use Rattle.wy_conditions.specs.Statements.{leave, exec_all}
-use Rattle.wy_conditions.specs.Programs.{body_of, end_of}
-use Rattle.wy_sound_expressions.specs.Truth.{AreTrueBy, Good}
-use Rattle.wy_sound_expressions.proofs.NameLemmas.{stand_later, right_later}
-use Rattle.wy_sound_expressions.proofs.GoodLemmas.{true_left, true_right, good_bind}
-use Rattle.wy_sound_joins.specs.Joins.{AtEnd}
-use Rattle.wy_sound_calls.specs.CallLaws.{Leaves, with_params, nothing_seen}
-use Rattle.wy_sound_expressions.proofs.LawLemmas.{are_data}
-use Rattle.wy_sound_points.proofs.SetLemmas.{Point, depend_from}
-use Rattle.wy_sound_points.proofs.StayLemmas.{block_points}
-use Rattle.wy_sound_steps.specs.Steps.{Ending}
-use Rattle.wy_sound_steps.proofs.StepLemmas.{results_leave}
+use Rattle.wy_vc_spec.specs.Numbered.{Node}
+use Rattle.wy_vc_spec.specs.Variables.{Vars}
+use Rattle.wy_vc_spec.specs.Walks.{Program}
+use Rattle.wy_vc_spec.specs.Spots.{Spot, Flow}
+use Rattle.wy_vc_spec.specs.Statements.{leave, exec_all}
+use Rattle.wy_vc_spec.specs.Programs.{body_of, end_of}
+use Rattle.wy_sound_statements.specs.wy_sound_walks.expressions.Truth.{AreTrueBy, Good}
+use Rattle.wy_sound_statements.proofs.wy_sound_walks_proofs.expressions_lemmas.NameLemmas.{stand_later, right_later}
+use Rattle.wy_sound_statements.proofs.wy_sound_walks_proofs.expressions_lemmas.GoodLemmas.{true_left, true_right, good_bind}
+use Rattle.wy_sound_statements.specs.wy_sound_walks.joins.Joins.{AtEnd}
+use Rattle.wy_sound_statements.specs.calls.CallLaws.{Leaves, with_params, nothing_seen}
+use Rattle.wy_sound_statements.proofs.wy_sound_walks_proofs.expressions_lemmas.LawLemmas.{are_data}
+use Rattle.wy_sound_statements.proofs.wy_sound_walks_proofs.points_lemmas.SetLemmas.{Point, depend_from}
+use Rattle.wy_sound_statements.proofs.wy_sound_walks_proofs.points_lemmas.StayLemmas.{block_points}
+use Rattle.wy_sound_statements.specs.steps.Steps.{Ending}
+use Rattle.wy_sound_statements.proofs.steps_lemmas.StepLemmas.{results_leave}
 use Rattle.wy_sound_statements.specs.Ends.{Exits, Rests}
 use Rattle.wy_sound_statements.proofs.StatementLemmas.{blocks_sound}
 use Rattle.wy_sound_programs.specs.Bodies.{NoneLeft, EndsBefore, BodiesLeave}

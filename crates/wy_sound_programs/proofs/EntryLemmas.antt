@@ -13,17 +13,17 @@ use Rattle.wy_sem.specs.Expressions.{Store, slot, put}
 use Rattle.wy_sem.specs.TypeTests.{set_if}
 use Rattle.wy_sem.specs.Statements as run
 use Rattle.wy_sem.specs.Statements.{Exit, Went, Broke, Continued, Gave, Frame, type_at}
-use Rattle.wy_formed.specs.Offers.{Offers}
-use Rattle.wy_formed.specs.Bound as bound
-use Rattle.wy_formed.specs.Bound.{Around, looped, behind, BoundStmt, BoundStmts}
-use Rattle.wy_conditions.specs.Making.{val_name}
-use Rattle.wy_conditions.specs.Sizes.{exprs_in, exprs_in_list, exprs_in_path, exprs_in_stmt, exprs_in_block}
-use Rattle.wy_conditions.specs.Numbered.{Node, numbered, numbered_all, numbered_list, numbered_path, numbered_stmt, numbered_block}
-use Rattle.wy_conditions.specs.Values.{Setting, word_at, variable}
-use Rattle.wy_conditions.specs.Clauses.{assume_in_type}
-use Rattle.wy_conditions.specs.Spots.{Spot, spot, assign, with_hyps}
-use Rattle.wy_conditions.specs.Programs.{name_params, assume_params}
-use Rattle.wy_sound_frames.proofs.EveryLemmas.{Every, every_bind, every_told, every_of, every_spend, every_check, every_choose, every_needed}
+use Rattle.wy_core.specs.formed.Offers.{Offers}
+use Rattle.wy_core.specs.formed.Bound as bound
+use Rattle.wy_core.specs.formed.Bound.{Around, looped, behind, BoundStmt, BoundStmts}
+use Rattle.wy_vc_spec.specs.Making.{val_name}
+use Rattle.wy_vc_spec.specs.Sizes.{exprs_in, exprs_in_list, exprs_in_path, exprs_in_stmt, exprs_in_block}
+use Rattle.wy_vc_spec.specs.Numbered.{Node, numbered, numbered_all, numbered_list, numbered_path, numbered_stmt, numbered_block}
+use Rattle.wy_vc_spec.specs.Values.{Setting, word_at, variable}
+use Rattle.wy_vc_spec.specs.Clauses.{assume_in_type}
+use Rattle.wy_vc_spec.specs.Spots.{Spot, spot, assign, with_hyps}
+use Rattle.wy_vc_spec.specs.Programs.{name_params, assume_params}
+use Rattle.wy_sound_statements.proofs.wy_sound_kinds_proofs.frames_lemmas.EveryLemmas.{Every, every_bind, every_told, every_of, every_spend, every_check, every_choose, every_needed}
 use Rattle.wy_sound_programs.specs.Bodies.{NoneLeft}
 use Rattle.wy_sound_programs.specs.Entries.{marked_params, EntriesMarkParams, BodiesStayInside}
 

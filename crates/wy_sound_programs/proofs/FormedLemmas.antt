@@ -1,34 +1,28 @@
 -- Bodies and contracts of formed programs are such as the kinds of expressions ask for.
-use Rattle.std.proofs.Common.{◌≡◌, ℕ, ◌+◌, ◌≤◌, List, [], ◌∷◌, Bool, true, false, ◌==◌, Some, None, ℤ, int_le, ◌≤ℤ◌, Less, nat_cmp, refl, ap, subst, arith}
-use Rattle.std.proofs.lemmas.Int.{ints}
+use Rattle.std.proofs.Common.{◌≡◌, ℕ, ◌+◌, ◌≤◌, List, [], ◌∷◌, Bool, true, false, ◌==◌, Some, None, ℤ, Less, nat_cmp, refl, ap, subst, arith}
 use Rattle.std.proofs.lemmas.Bool.{or_right}
 use Rattle.std.specs.Cmp.Lexicographic.{slice_cmp, nat_list_cmp_total}
 use Rattle.std.specs.List.{AllByRecursion}
 use Rattle.std.specs.List.Sorted.{IsStrictlySortedBy}
+use Rattle.wy_lemmas.proofs.Choices.{at_most_test as at_most, false_true as no_quiet}
 use Rattle.wy_value.specs.Values as values
 use Rattle.wy_value.specs.Numbers.{is_int}
 use Rattle.wy_value.specs.declared.bounds.TheConstants.{INT_MIN, INT_MAX}
 use Rattle.wy_core.specs.CoreTree.{Expr, NullExpr, BoolExpr, IntExpr, VarExpr, CallExpr, NegExpr, NotExpr, LenExpr, BinaryExpr, IsExpr, IndexExpr, FieldExpr, ListExpr, RepeatExpr, RecordExpr, QuantExpr, Exprs, NoExprs, MoreExprs, Fields, NoFields, MoreFields, Step, IndexStep, FieldStep, Stmt, DeclareStmt, AssignStmt, CallStmt, ReturnStmt, AssertStmt, BreakStmt, ContinueStmt, SkipStmt, FailStmt, IfStmt, WhileStmt, Stmts, NoStmts, MoreStmts}
-use Rattle.wy_formed.specs.Offers.{Offers, IsCall}
-use Rattle.wy_formed.specs.Bound as bound
-use Rattle.wy_formed.specs.Bound.{Around, looped, behind, BoundTy, BoundExpr, BoundExprs, BoundFields, BoundClauses, BoundOption, BoundPath, BoundStmt, BoundStmts}
-use Rattle.wy_formed.specs.Calls.{Nothing, MayCall, CallsExpr, CallsExprs, CallsFields, CallsClauses, CallsStmt, CallsStmts}
-use Rattle.wy_formed.specs.Literals.{IsInt, IntsExpr, IntsExprs, IntsFields, IntsClauses, IntsPath, IntsStmt, IntsStmts}
-use Rattle.wy_formed.specs.Sizes.{size, sizes, field_sizes, IsSmall}
-use Rattle.wy_formed.specs.Wholes.{IsQuiet, AreQuiet, FieldsQuiet, EachArgument, EachClause, EachIndex, EachWhole, EachWholeIn}
-use Rattle.wy_sound_kinds.specs.Ready.{with_one, count_of, names_in, Ready, AllReady, FieldsReady}
-use Rattle.wy_sound_fits.specs.Fit.{ClausesReady}
+use Rattle.wy_core.specs.formed.Offers.{Offers, IsCall}
+use Rattle.wy_core.specs.formed.Bound as bound
+use Rattle.wy_core.specs.formed.Bound.{Around, looped, behind, BoundTy, BoundExpr, BoundExprs, BoundFields, BoundClauses, BoundOption, BoundPath, BoundStmt, BoundStmts}
+use Rattle.wy_core.specs.formed.Calls.{Nothing, MayCall, CallsExpr, CallsExprs, CallsFields, CallsClauses, CallsStmt, CallsStmts}
+use Rattle.wy_core.specs.formed.Literals.{IsInt, IntsExpr, IntsExprs, IntsFields, IntsClauses, IntsPath, IntsStmt, IntsStmts}
+use Rattle.wy_core.specs.formed.Sizes.{size, sizes, field_sizes, IsSmall}
+use Rattle.wy_core.specs.formed.Wholes.{IsQuiet, AreQuiet, FieldsQuiet, EachArgument, EachClause, EachIndex, EachWhole, EachWholeIn}
+use Rattle.wy_sound_statements.specs.wy_sound_kinds.Ready.{with_one, count_of, names_in, Ready, AllReady, FieldsReady}
+use Rattle.wy_sound_statements.specs.wy_sound_kinds.fits.Fit.{ClausesReady}
 use Rattle.wy_sound_programs.specs.Along.{Allowed}
 use Rattle.wy_sound_programs.specs.Made.{all_marked, PathMade, Made, AllMade}
 use Rattle.wy_sound_programs.specs.FormedBodies.{Offering, FormedBodiesAreMade}
 
-no_quiet : {X : Type 0} → false ≡ true → X
-no_quiet e = absurd cc
-
 -- ---- numbers and names
-
-at_most : (a b : ℤ) → a ≤ℤ b → int_le a b ≡ true
-at_most a b h = grind (arith, ints)
 
 int_made : (z : ℤ) → IsInt z → is_int z ≡ true
 int_made z h = rw (at_most INT_MIN z h.least, at_most z INT_MAX h.greatest) refl

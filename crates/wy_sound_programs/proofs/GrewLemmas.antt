@@ -3,20 +3,20 @@ use Rattle.std.proofs.Common.{◌≡◌, ◌⊎◌, inl, inr, ℕ, ◌+◌, List
 use Rattle.wy_core.specs.Types.{Ty, InterTy}
 use Rattle.wy_core.specs.CoreTree.{Expr, Step, IndexStep, FieldStep, Stmt, DeclareStmt, AssignStmt, CallStmt, ReturnStmt, AssertStmt, BreakStmt, ContinueStmt, SkipStmt, FailStmt, IfStmt, WhileStmt, Stmts, NoStmts, MoreStmts}
 use Rattle.wy_types.specs.Names.{Declared}
-use Rattle.wy_environment.specs.Slots.{slot_at, put_slot}
-use Rattle.wy_environment.specs.Variables.{Environment, changed, type_of}
-use Rattle.wy_typing.specs.Outcomes.{Gives, Give}
-use Rattle.wy_typing.specs.Contexts.{Program, Found, FoundAll}
-use Rattle.wy_typing.specs.Expressions.{TypedExpr, none_yet}
-use Rattle.wy_typing.specs.States.{State, left, broken, declare, with_flow, with_env, GiveNormal}
-use Rattle.wy_typing.specs.Assigned.{assigned_in}
-use Rattle.wy_typing.specs.Loops.{RenewedAll, Head, ClausesTyped}
-use Rattle.wy_typing.specs.Paths.{StepType, PathTypes, Reached, step_more}
-use Rattle.wy_typing.specs.Statements.{IntoDeclared, NewDeclared, TypedStmt, TypedBlock}
-use Rattle.wy_conditions.specs.Sizes.{exprs_in, exprs_in_list, exprs_in_path, exprs_in_step, exprs_in_stmt, exprs_in_block}
-use Rattle.wy_sound_joins.specs.Joins.{IsOne}
-use Rattle.wy_sound_kinds.proofs.TypeLemmas.{then_gives, given_is}
-use Rattle.wy_sound_suits.proofs.FlowLemmas.{begins_self, begins_more, FlowAll, flow_length, flow_begins, flow_of, flows_of}
+use Rattle.wy_sound_statements.specs.wy_flow_spec.environment.Slots.{slot_at, put_slot}
+use Rattle.wy_sound_statements.specs.wy_flow_spec.environment.Variables.{Environment, changed, type_of}
+use Rattle.wy_sound_statements.specs.wy_flow_spec.typing.Outcomes.{Gives, Give}
+use Rattle.wy_sound_statements.specs.wy_flow_spec.typing.Contexts.{Program, Found, FoundAll}
+use Rattle.wy_sound_statements.specs.wy_flow_spec.typing.Expressions.{TypedExpr, none_yet}
+use Rattle.wy_sound_statements.specs.wy_flow_spec.typing.States.{State, left, broken, declare, with_flow, with_env, GiveNormal}
+use Rattle.wy_sound_statements.specs.wy_flow_spec.typing.Assigned.{assigned_in}
+use Rattle.wy_sound_statements.specs.wy_flow_spec.typing.Loops.{RenewedAll, Head, ClausesTyped}
+use Rattle.wy_sound_statements.specs.wy_flow_spec.typing.Paths.{StepType, PathTypes, Reached, step_more}
+use Rattle.wy_sound_statements.specs.wy_flow_spec.typing.Statements.{IntoDeclared, NewDeclared, TypedStmt, TypedBlock}
+use Rattle.wy_vc_spec.specs.Sizes.{exprs_in, exprs_in_list, exprs_in_path, exprs_in_step, exprs_in_stmt, exprs_in_block}
+use Rattle.wy_sound_statements.specs.wy_sound_walks.joins.Joins.{IsOne}
+use Rattle.wy_sound_statements.proofs.wy_sound_kinds_proofs.TypeLemmas.{then_gives, given_is}
+use Rattle.wy_sound_statements.proofs.wy_sound_kinds_proofs.suits_lemmas.FlowLemmas.{begins_self, begins_more, FlowAll, flow_length, flow_begins, flow_of, flows_of}
 use Rattle.wy_sound_statements.proofs.PlaceLemmas.{one_left}
 use Rattle.wy_sound_programs.specs.Scopes.{declares, declares_in}
 use Rattle.wy_sound_programs.proofs.SlotLemmas.{changed_stays}

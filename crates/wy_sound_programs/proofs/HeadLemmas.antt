@@ -2,16 +2,17 @@
 use Rattle.std.proofs.Common.{◌≡◌, ◌⊎◌, inl, inr, ℕ, List, [], ◌∷◌, Bool, true, false, cond, ◌==◌, Option, Some, None, refl, ap, ◌∙◌, subst}
 use Rattle.std.proofs.lemmas.Bool.{or_from}
 use Rattle.wy_core.specs.Types.{Ty}
+use Rattle.wy_lemmas.proofs.Choices.{apart_of}
 use Rattle.wy_types.specs.Names.{Declared}
-use Rattle.wy_parts.specs.Norms.{IsNorm}
-use Rattle.wy_environment.specs.Slots.{slot_at}
-use Rattle.wy_environment.specs.Variables.{Environment, given}
-use Rattle.wy_typing.specs.Outcomes.{Gives, Give}
-use Rattle.wy_typing.specs.Narrowing.{is_among}
-use Rattle.wy_typing.specs.States.{State}
-use Rattle.wy_typing.specs.Loops.{Renewed, RenewedAll, Head}
-use Rattle.wy_sound_kinds.proofs.TypeLemmas.{then_gives, given_is}
-use Rattle.wy_sound_programs.proofs.SlotLemmas.{same_or_apart, apart_of, given_reached, given_same, given_other}
+use Rattle.wy_subtype_parts.specs.Norms.{IsNorm}
+use Rattle.wy_sound_statements.specs.wy_flow_spec.environment.Slots.{slot_at}
+use Rattle.wy_sound_statements.specs.wy_flow_spec.environment.Variables.{Environment, given}
+use Rattle.wy_sound_statements.specs.wy_flow_spec.typing.Outcomes.{Gives, Give}
+use Rattle.wy_sound_statements.specs.wy_flow_spec.typing.Narrowing.{is_among}
+use Rattle.wy_sound_statements.specs.wy_flow_spec.typing.States.{State}
+use Rattle.wy_sound_statements.specs.wy_flow_spec.typing.Loops.{Renewed, RenewedAll, Head}
+use Rattle.wy_sound_statements.proofs.wy_sound_kinds_proofs.TypeLemmas.{then_gives, given_is}
+use Rattle.wy_sound_programs.proofs.SlotLemmas.{same_or_apart, given_reached, given_same, given_other}
 
 -- the variable was declared, and has its declared type
 pub record New (names : List Declared) (declared : List (Option Ty)) (out : Environment) (x : ℕ) : Type 0 where

@@ -1,17 +1,18 @@
 -- Types of variables where paths meet, and behind loops.
 use Rattle.std.proofs.Common.{◌≡◌, ◌⊎◌, inl, inr, ℕ, zero, suc, List, [], ◌∷◌, ◌++◌, Bool, true, false, cond, Option, Some, None, refl, sym, ap, ◌∙◌, subst}
+use Rattle.wy_lemmas.proofs.Choices.{true_false as not_both}
+use Rattle.wy_lemmas.proofs.Lists.{none_behind as nil_right}
 use Rattle.wy_value.specs.Datum.{Datum}
 use Rattle.wy_core.specs.Types.{Ty}
 use Rattle.wy_types.specs.Names.{Declared, Up}
 use Rattle.wy_types.specs.Recursion.{RecurThroughParts}
-use Rattle.wy_environment.specs.Slots.{slot_at}
-use Rattle.wy_environment.specs.Variables.{Environment}
-use Rattle.wy_typing.specs.Outcomes.{Gives, Give}
-use Rattle.wy_typing.specs.Joins.{JoinedType, JoinedSlot, JoinedSlots, JoinedTypes, Joined}
-use Rattle.wy_typing.specs.Loops.{Exit}
-use Rattle.wy_sound_terms.proofs.FollowLemmas.{not_both}
-use Rattle.wy_sound_joins.specs.Joins.{IsOne}
-use Rattle.wy_sound_kinds.proofs.TypeLemmas.{then_gives, given_is, nil_right, append_assoc, joined_in}
+use Rattle.wy_sound_statements.specs.wy_flow_spec.environment.Slots.{slot_at}
+use Rattle.wy_sound_statements.specs.wy_flow_spec.environment.Variables.{Environment}
+use Rattle.wy_sound_statements.specs.wy_flow_spec.typing.Outcomes.{Gives, Give}
+use Rattle.wy_sound_statements.specs.wy_flow_spec.typing.Joins.{JoinedType, JoinedSlot, JoinedSlots, JoinedTypes, Joined}
+use Rattle.wy_sound_statements.specs.wy_flow_spec.typing.Loops.{Exit}
+use Rattle.wy_sound_statements.specs.wy_sound_walks.joins.Joins.{IsOne}
+use Rattle.wy_sound_statements.proofs.wy_sound_kinds_proofs.TypeLemmas.{then_gives, given_is, append_assoc, joined_in}
 use Rattle.wy_sound_programs.specs.Typed.{Has}
 use Rattle.wy_sound_programs.proofs.SlotLemmas.{no_slot, same_slot}
 

@@ -21,3 +21,7 @@ pub mod FormedLemmas
 pub mod EntryLemmas
 pub mod BeginLemmas
 pub mod BegunLemmas
+-- passed on to the crates above
+pub use Rattle.wy_sem.proofs as wy_sem_proofs
+pub use Rattle.wy_sound_statements.proofs.wy_sound_kinds_proofs as wy_sound_kinds_proofs
+pub use Rattle.wy_sound_statements.proofs.wy_sound_terms_proofs as wy_sound_terms_proofs

@@ -2,18 +2,18 @@
 use Rattle.std.proofs.Common.{◌≡◌, ℕ, ◌+◌, ◌≤◌, List, ◌∷◌, ◌++◌, Bool, true, sym, ap, ◌∙◌, arith}
 use Rattle.wy_core.specs.CoreTree.{Expr, Stmts}
 use Rattle.wy_term.specs.declared.cond.CondKind.TheVariants as kind
-use Rattle.wy_conditions.specs.Sizes.{exprs_in, exprs_in_list}
-use Rattle.wy_conditions.specs.Numbered.{Node, numbered, numbered_list, numbered_block}
-use Rattle.wy_conditions.specs.Owed.{assume}
-use Rattle.wy_conditions.specs.Making.{formula, denied}
-use Rattle.wy_conditions.specs.Clauses.{Passed, owe_clauses}
-use Rattle.wy_conditions.specs.Calls.{Walked}
-use Rattle.wy_conditions.specs.Spots.{Spot, Flow, is_set, as_list, with_hyps}
-use Rattle.wy_conditions.specs.Joins.{Met, meet}
-use Rattle.wy_conditions.specs.Statements.{Body, words, expr, Renewed, renew, walk_clauses, keep, where_true, where_false, exec_all}
-use Rattle.wy_sound_expressions.proofs.CallGrows.{clauses_grow}
-use Rattle.wy_sound_points.proofs.SetLemmas.{Point, FlowPoints, point_more, point_if_more, points_more, both_points, list_points, with_point}
-use Rattle.wy_sound_points.proofs.StayLemmas.{expr_up, walked_up, keep_up, head_renewed, block_points}
+use Rattle.wy_vc_spec.specs.Sizes.{exprs_in, exprs_in_list}
+use Rattle.wy_vc_spec.specs.Numbered.{Node, numbered, numbered_list, numbered_block}
+use Rattle.wy_vc_spec.specs.Owed.{assume}
+use Rattle.wy_vc_spec.specs.Making.{formula, denied}
+use Rattle.wy_vc_spec.specs.Clauses.{Passed, owe_clauses}
+use Rattle.wy_vc_spec.specs.Calls.{Walked}
+use Rattle.wy_vc_spec.specs.Spots.{Spot, Flow, is_set, as_list, with_hyps}
+use Rattle.wy_vc_spec.specs.Joins.{Met, meet}
+use Rattle.wy_vc_spec.specs.Statements.{Body, words, expr, Renewed, renew, walk_clauses, keep, where_true, where_false, exec_all}
+use Rattle.wy_sound_statements.proofs.wy_sound_walks_proofs.expressions_lemmas.CallGrows.{clauses_grow}
+use Rattle.wy_sound_statements.proofs.wy_sound_walks_proofs.points_lemmas.SetLemmas.{Point, FlowPoints, point_more, point_if_more, points_more, both_points, list_points, with_point}
+use Rattle.wy_sound_statements.proofs.wy_sound_walks_proofs.points_lemmas.StayLemmas.{expr_up, walked_up, keep_up, head_renewed, block_points}
 use Rattle.wy_sound_programs.proofs.MarkLemmas.{MeetsIf, meets, head_set}
 
 module _ (b : Body Node) where
@@ -65,9 +65,6 @@ module _ (b : Body Node) (at : ℕ) (e : Expr ℕ) (invariants : List (Expr ℕ)
   -- the marks at the head are those before the loop
   pub head_marks : head.spot.set ≡ q.set
   head_marks = head_set b inner (with_hyps entry.hyps q) entry.count
-
-  pub to_head : (x : ℕ) → is_set q.set x ≡ true → is_set head.spot.set x ≡ true
-  to_head x on = ap (λ (l : List Bool). is_set l x) head_marks ∙ on
 
   pub from_head : (x : ℕ) → is_set head.spot.set x ≡ true → is_set q.set x ≡ true
   from_head x on = sym (ap (λ (l : List Bool). is_set l x) head_marks) ∙ on

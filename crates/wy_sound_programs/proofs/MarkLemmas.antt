@@ -1,35 +1,34 @@
 -- Marks where paths come together, and at the head of a loop.
 use Rattle.std.proofs.Common.{◌≡◌, ◌⊎◌, inl, inr, ℕ, zero, suc, ◌+◌, ◌<◌, ◌≤◌, List, [], ◌∷◌, map, length, Bool, true, false, ◌&&◌, if◌then◌else◌, Option, Some, None, refl, sym, ap₂, ◌∙◌, subst, arith}
 use Rattle.wy_core.specs.CoreTree.{Stmts}
+use Rattle.wy_lemmas.proofs.Choices.{both_parts as and_true, both_true, false_true as no_truth}
 use Rattle.wy_term.specs.Term.{Term}
 use Rattle.wy_sem.specs.Statements.{type_at}
-use Rattle.wy_conditions.specs.Making.{val_name}
-use Rattle.wy_conditions.specs.Numbered.{Node}
-use Rattle.wy_conditions.specs.Variables.{Vars, slot_at, put}
-use Rattle.wy_conditions.specs.Values.{word_at, variable}
-use Rattle.wy_conditions.specs.Clauses.{assume_in_type}
-use Rattle.wy_conditions.specs.Spots.{Spot, is_set, with_hyps}
-use Rattle.wy_conditions.specs.Assigned.{assigns_in, bound_in}
-use Rattle.wy_conditions.specs.Joins.{Path, path_of, max, most_vars, differ, first_term, set_on_all, with_equation, equated, Joined, with_variable, join_vars, meet}
-use Rattle.wy_conditions.specs.Statements.{Body, words, Renewed, renew_vars, renew_types, renew}
-use Rattle.wy_sound_terms.proofs.FollowLemmas.{and_true, both_true}
-use Rattle.wy_sound_joins.specs.Joins.{IsOne}
-use Rattle.wy_sound_points.proofs.SetLemmas.{AllPoints}
-use Rattle.wy_sound_programs.proofs.SlotLemmas.{no_truth}
+use Rattle.wy_vc_spec.specs.Making.{val_name}
+use Rattle.wy_vc_spec.specs.Numbered.{Node}
+use Rattle.wy_vc_spec.specs.Variables.{Vars, slot_at, put}
+use Rattle.wy_vc_spec.specs.Values.{word_at, variable}
+use Rattle.wy_vc_spec.specs.Clauses.{assume_in_type}
+use Rattle.wy_vc_spec.specs.Spots.{Spot, is_set, with_hyps}
+use Rattle.wy_vc_spec.specs.Assigned.{assigns_in, bound_in}
+use Rattle.wy_vc_spec.specs.Joins.{Path, path_of, max, most_vars, differ, first_term, set_on_all, with_equation, equated, Joined, with_variable, join_vars, meet}
+use Rattle.wy_vc_spec.specs.Statements.{Body, words, Renewed, renew_vars, renew_types, renew}
+use Rattle.wy_sound_statements.specs.wy_sound_walks.joins.Joins.{IsOne}
+use Rattle.wy_sound_statements.proofs.wy_sound_walks_proofs.points_lemmas.SetLemmas.{AllPoints}
 
 -- ---- equations leave marks
 
-with_set : (name : Term) (o : Option Term) (p : Path) → (with_equation name o p).set ≡ p.set
+pub with_set : (name : Term) (o : Option Term) (p : Path) → (with_equation name o p).set ≡ p.set
 with_set name None p = refl
 with_set name (Some t) p = refl
 
-set_equated : (name : Term) (x : ℕ) (ps : List Path) (y : ℕ) → set_on_all (equated name x ps) y ≡ set_on_all ps y
+pub set_equated : (name : Term) (x : ℕ) (ps : List Path) (y : ℕ) → set_on_all (equated name x ps) y ≡ set_on_all ps y
 set_equated name x [] y = refl
 set_equated name x (p ∷ ps) y = ap₂ (λ (s : List Bool) (b : Bool). is_set s y && b) (with_set name (slot_at p.vars x) p) (set_equated name x ps y)
 
 -- ---- all variables
 
-picked : (P : Joined → Type 0) (c : Bool) (i j : Joined) → P i → P j → P (if c then i else j)
+pub picked : (P : Joined → Type 0) (c : Bool) (i j : Joined) → P i → P j → P (if c then i else j)
 picked P true i j h g = h
 picked P false i j h g = g
 
@@ -52,10 +51,10 @@ join_down words ps x (suc j) n =
     (down_next ps x old.set (join_down words ps (suc x) j n))
 
 -- what is marked on all paths is marked, as far as there are so many variables
-abbrev Upto : List Path → ℕ → ℕ → List Bool → Type 0
+abbrev pub Upto : List Path → ℕ → ℕ → List Bool → Type 0
 Upto ps x j set = (y : ℕ) → y < j → set_on_all ps (x + y) ≡ true → is_set set y ≡ true
 
-up_next : (ps : List Path) (x j : ℕ) (set : List Bool) → Upto ps (suc x) j set → Upto ps x (suc j) (set_on_all ps x ∷ set)
+pub up_next : (ps : List Path) (x j : ℕ) (set : List Bool) → Upto ps (suc x) j set → Upto ps x (suc j) (set_on_all ps x ∷ set)
 up_next ps x j set h zero lt e = let q : x + 0 ≡ x = omega arith in subst (λ (z : ℕ). set_on_all ps z ≡ true) q e
 up_next ps x j set h (suc y) lt e = let q : x + suc y ≡ suc x + y = omega arith in h y (omega (arith, lt)) (subst (λ (z : ℕ). set_on_all ps z ≡ true) q e)
 
@@ -71,7 +70,7 @@ join_up words ps x (suc j) n =
 
 -- ---- how many variables there are
 
-max_first : (m n : ℕ) → m ≤ max m n
+pub max_first : (m n : ℕ) → m ≤ max m n
 max_first zero n = omega arith
 max_first (suc m) zero = omega arith
 max_first (suc m) (suc n) = let h = max_first m n in omega (arith, h)

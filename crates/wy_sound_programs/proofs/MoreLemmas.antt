@@ -2,22 +2,23 @@
 use Rattle.std.proofs.Common.{◌≡◌, ◌⊎◌, inl, inr, ℕ, List, [], ◌∷◌, Bool, true, false, ◌||◌, ◌==◌, Option, Some, None, refl}
 use Rattle.std.proofs.lemmas.Bool.{or_cases, or_left, or_right}
 use Rattle.std.specs.Prelude.{is_some}
+use Rattle.wy_sound_statements.proofs.wy_sound_kinds_proofs.NodeLemmas.{fit_in}
 use Rattle.wy_value.specs.Datum.{Datum}
 use Rattle.wy_core.specs.Types.{Ty}
 use Rattle.wy_core.specs.CoreTree as tree
 use Rattle.wy_core.specs.CoreTree.{Expr, NullExpr, BoolExpr, IntExpr, VarExpr, CallExpr, NegExpr, NotExpr, LenExpr, BinaryExpr, IsExpr, IndexExpr, FieldExpr, ListExpr, RepeatExpr, RecordExpr, QuantExpr, Exprs, NoExprs, MoreExprs, Fields, NoFields, MoreFields}
 use Rattle.wy_types.specs.Names.{Declared}
-use Rattle.wy_typing.specs.Outcomes.{Gives}
-use Rattle.wy_typing.specs.Contexts.{Signature}
-use Rattle.wy_typing.specs.Calls.{Fit, FitSignature}
+use Rattle.wy_sound_statements.specs.wy_flow_spec.typing.Outcomes.{Gives}
+use Rattle.wy_sound_statements.specs.wy_flow_spec.typing.Contexts.{Signature}
+use Rattle.wy_sound_statements.specs.wy_flow_spec.typing.Calls.{FitSignature}
 use Rattle.wy_sem.specs.Expressions as sem
 use Rattle.wy_sem.specs.Expressions.{Store}
-use Rattle.wy_conditions.specs.Values.{Setting}
-use Rattle.wy_sound_expressions.specs.Names.{also}
-use Rattle.wy_sound_expressions.specs.Suits.{Kinds, Suits, AllSuit, FieldsSuit}
-use Rattle.wy_sound_clauses.specs.Clauses.{clause_kinds, AllFit}
-use Rattle.wy_sound_kinds.specs.Kinds.{AreIn, AreArguments}
-use Rattle.wy_sound_kinds.proofs.TypeLemmas.{then_gives, AllIn}
+use Rattle.wy_vc_spec.specs.Values.{Setting}
+use Rattle.wy_sound_statements.specs.wy_sound_walks.expressions.Names.{also}
+use Rattle.wy_sound_statements.specs.wy_sound_walks.expressions.Suits.{Kinds, Suits, AllSuit, FieldsSuit}
+use Rattle.wy_sound_statements.specs.wy_sound_walks.clauses.Clauses.{clause_kinds, AllFit}
+use Rattle.wy_sound_statements.specs.wy_sound_kinds.Kinds.{AreArguments}
+use Rattle.wy_sound_statements.proofs.wy_sound_kinds_proofs.TypeLemmas.{AllIn}
 
 -- ---- more marks
 
@@ -64,16 +65,6 @@ more_fit w s members seen more (e ∷ es) st sub h =
     (record { quiet = h.0.quiet; suits = more_suits (clause_kinds w s members) true seen more e st sub h.0.suits; truth = h.0.truth }, more_fit w s members seen more es st sub h.1)
 
 -- ---- arguments
-
-fit_in : (names : List Declared) (at : ℕ) (u : Unit {0}) (ts params : List Ty) (vs : List Datum) → Fit names at ts params (Gives u) → AllIn names ts vs → AreIn names params vs
-fit_in names at u [] [] [] h a = tt
-fit_in names at u [] (q ∷ params) [] h a = tt
-fit_in names at u [] [] (v ∷ vs) h a = absurd a
-fit_in names at u [] (q ∷ params) (v ∷ vs) h a = absurd a
-fit_in names at u (t ∷ ts) [] [] h a = absurd a
-fit_in names at u (t ∷ ts) (q ∷ params) [] h a = absurd a
-fit_in names at u (t ∷ ts) [] (v ∷ vs) h a = tt
-fit_in names at u (t ∷ ts) (q ∷ params) (v ∷ vs) h a = let f = then_gives _ _ u h in (f.1.1 v a.0, fit_in names at u ts params vs f.2 a.1)
 
 pub signature_fit : (names : List Declared) (at : ℕ) (u : Unit {0}) (ts : List Ty) (vs : List Datum) (o : Option Signature) → FitSignature names at ts o (Gives u) → AllIn names ts vs → AreArguments names o vs
 signature_fit names at u ts vs None h a = tt

@@ -3,16 +3,17 @@ use Rattle.std.proofs.Common.{◌≡◌, ◌⊎◌, inl, inr, ℕ, zero, suc, �
 use Rattle.std.specs.Prelude.{is_some}
 use Rattle.wy_core.specs.Types.{Ty}
 use Rattle.wy_core.specs.CoreTree.{Param, Routine, Stmt, DeclareStmt, AssignStmt, CallStmt, ReturnStmt, AssertStmt, BreakStmt, ContinueStmt, SkipStmt, FailStmt, IfStmt, WhileStmt, Stmts, NoStmts, MoreStmts}
-use Rattle.wy_environment.specs.Slots.{slot_at, put_slot}
-use Rattle.wy_typing.specs.Programs.{declared_params}
+use Rattle.wy_sound_statements.specs.wy_flow_spec.environment.Slots.{slot_at, put_slot}
+use Rattle.wy_lemmas.proofs.Choices.{apart_of}
+use Rattle.wy_sound_statements.specs.wy_flow_spec.typing.Programs.{declared_params}
 use Rattle.wy_sem.specs.Statements.{type_at}
 use Rattle.wy_sem.specs.Evaluation.{set_type, any_types, param_types, declared_in, declared_in_all, types_of}
-use Rattle.wy_formed.specs.Offers.{Offers}
-use Rattle.wy_formed.specs.Bound as bound
-use Rattle.wy_formed.specs.Bound.{Around, looped, behind, with_params, BoundStmt, BoundStmts, BoundParams, BoundRoutine}
+use Rattle.wy_core.specs.formed.Offers.{Offers}
+use Rattle.wy_core.specs.formed.Bound as bound
+use Rattle.wy_core.specs.formed.Bound.{Around, looped, behind, with_params, BoundStmt, BoundStmts, BoundParams, BoundRoutine}
 use Rattle.wy_sound_programs.specs.Scopes.{Scope, declares, declares_in, Scoped, AllScoped}
 use Rattle.wy_sound_programs.specs.Once.{Once, AllOnce, OnceRoutine, routine_scope, ParamsScoped, RoutinesAreScoped}
-use Rattle.wy_sound_programs.proofs.SlotLemmas.{no_slot, same_slot, same_or_apart, apart_of, slot_put, slot_other}
+use Rattle.wy_sound_programs.proofs.SlotLemmas.{no_slot, same_slot, same_or_apart, slot_put, slot_other}
 
 -- ---- declarations last
 

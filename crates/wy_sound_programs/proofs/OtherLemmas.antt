@@ -2,6 +2,7 @@
 use Rattle.std.proofs.Common.{◌≡◌, ℕ, suc, ◌+◌, ◌<◌, List, [], ◌∷◌, length, Bool, true, false, cond, ◌&&◌, ◌||◌, ◌⊎◌, inl, inr, Some, refl, ap, ◌∙◌, arith}
 use Rattle.std.specs.Prelude.{is_some}
 use Rattle.std.specs.Str.{bytes_eq}
+use Rattle.wy_lemmas.proofs.Choices.{both_false, both_parts as both, or_left, or_right, false_true}
 use Rattle.wy_value.specs.Datum.{Datum, Fields, no_fields, field}
 use Rattle.wy_value.specs.Datum as datum
 use Rattle.wy_value.specs.Values.{names_of}
@@ -15,18 +16,9 @@ use Rattle.wy_types.specs.Claims.{EachOf}
 use Rattle.wy_types.specs.Membership.{shape_of, field_readers, member}
 use Rattle.wy_types.specs.NodeLaws.{bytes_are}
 use Rattle.wy_types.specs.Ranked.{IsRanked}
-use Rattle.wy_types.proofs.TruthLemmas.{both}
 use Rattle.wy_types.proofs.AskLemmas.{name_bound, letters, length-letters, bytes_differ, fresh_name, names_only-in}
 use Rattle.wy_subtype.specs.Valued.{HasDatum}
-use Rattle.wy_subtype.proofs.MarkLemmas.{or_left, or_right}
-use Rattle.wy_parts.specs.Fields.{value_at, has_value_at, has_field, atom_has, all_have}
-
-false_true : {X : Type 0} → false ≡ true → X
-false_true e = absurd cc
-
-both_false : (a b : Bool) → (a && b) ≡ false → (a ≡ false) ⊎ (b ≡ false)
-both_false true b e = inr e
-both_false false b e = inl refl
+use Rattle.wy_subtype_parts.specs.Fields.{value_at, has_value_at, has_field, atom_has, all_have}
 
 module _ (table : Table) (k : ℕ) (ranked : (rank : ℕ → ℕ) × IsRanked table rank k) (f : List ℕ) where
   -- ---- which values have the field

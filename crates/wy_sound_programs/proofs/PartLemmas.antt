@@ -2,25 +2,26 @@
 use Rattle.std.proofs.Common.{◌≡◌, ℕ, List, [], ◌∷◌, ◌++◌, Bool, true, false, cond, Option, Some, None, refl, sym, ap, ◌∙◌, subst}
 use Rattle.wy_core.specs.Types.{Ty, BoolTy, IntTy, AnyTy, ArrayTy, InterTy}
 use Rattle.wy_core.specs.CoreTree.{Expr, Exprs, Step, IndexStep, FieldStep, Stmts, IfStmt, WhileStmt}
+use Rattle.wy_lemmas.proofs.Lists.{none_behind as nil_right}
 use Rattle.wy_types.specs.Names.{Declared}
 use Rattle.wy_types.specs.Questions.{IsWideWithin}
-use Rattle.wy_parts.specs.Norms.{IsNorm}
-use Rattle.wy_parts.specs.Items.{IsElement}
-use Rattle.wy_parts.specs.Fields.{AllHave, IsField}
-use Rattle.wy_environment.specs.Slots.{slot_at}
-use Rattle.wy_environment.specs.Variables.{Environment, given, changed, type_of}
-use Rattle.wy_typing.specs.Outcomes.{Gives, Give, Then}
-use Rattle.wy_typing.specs.Contexts.{Program, Found, FoundAll}
-use Rattle.wy_typing.specs.Asked.{IsInside, Norm}
-use Rattle.wy_typing.specs.Calls.{FitCall}
-use Rattle.wy_typing.specs.Joins.{Joined}
-use Rattle.wy_typing.specs.Expressions.{TypedExpr, TypedExprs, none_yet}
-use Rattle.wy_typing.specs.States.{State, left, declare, with_flow, with_env, GiveNormal, ComesInto, Tested}
-use Rattle.wy_typing.specs.Assigned.{assigned_in}
-use Rattle.wy_typing.specs.Loops.{Head, Exit, ClausesTyped, Begun, begun}
-use Rattle.wy_typing.specs.Paths.{Reached, StepType, step_more, PathTypes, TypesAlong, Updated}
-use Rattle.wy_typing.specs.Statements.{DeclareTyped, WholeTyped, IntoDeclared, NewDeclared, PartTyped, CallTyped, ReturnTyped, FitsResult, AssertTyped, branches, TypedStmt, TypedBlock}
-use Rattle.wy_sound_kinds.proofs.TypeLemmas.{then_gives, given_is, nil_right, append_assoc}
+use Rattle.wy_subtype_parts.specs.Norms.{IsNorm}
+use Rattle.wy_subtype_parts.specs.Items.{IsElement}
+use Rattle.wy_subtype_parts.specs.Fields.{AllHave, IsField}
+use Rattle.wy_sound_statements.specs.wy_flow_spec.environment.Slots.{slot_at}
+use Rattle.wy_sound_statements.specs.wy_flow_spec.environment.Variables.{Environment, given, changed, type_of}
+use Rattle.wy_sound_statements.specs.wy_flow_spec.typing.Outcomes.{Gives, Give, Then}
+use Rattle.wy_sound_statements.specs.wy_flow_spec.typing.Contexts.{Program, Found, FoundAll}
+use Rattle.wy_sound_statements.specs.wy_flow_spec.typing.Asked.{IsInside, Norm}
+use Rattle.wy_sound_statements.specs.wy_flow_spec.typing.Calls.{FitCall}
+use Rattle.wy_sound_statements.specs.wy_flow_spec.typing.Joins.{Joined}
+use Rattle.wy_sound_statements.specs.wy_flow_spec.typing.Expressions.{TypedExpr, TypedExprs, none_yet}
+use Rattle.wy_sound_statements.specs.wy_flow_spec.typing.States.{State, left, declare, with_flow, with_env, GiveNormal, ComesInto, Tested}
+use Rattle.wy_sound_statements.specs.wy_flow_spec.typing.Assigned.{assigned_in}
+use Rattle.wy_sound_statements.specs.wy_flow_spec.typing.Loops.{Head, Exit, ClausesTyped, Begun, begun}
+use Rattle.wy_sound_statements.specs.wy_flow_spec.typing.Paths.{Reached, StepType, step_more, PathTypes, TypesAlong, Updated}
+use Rattle.wy_sound_statements.specs.wy_flow_spec.typing.Statements.{DeclareTyped, WholeTyped, IntoDeclared, NewDeclared, PartTyped, CallTyped, ReturnTyped, FitsResult, AssertTyped, branches, TypedStmt, TypedBlock}
+use Rattle.wy_sound_statements.proofs.wy_sound_kinds_proofs.TypeLemmas.{then_gives, given_is, append_assoc}
 
 -- a test, which is a truth value
 pub record Test (p : Program) (env : Environment) (flow : List Ty) (e : Expr ℕ) (v : Found) : Type 0 where

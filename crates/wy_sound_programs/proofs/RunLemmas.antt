@@ -1,6 +1,7 @@
 -- What holds of stores along the run of typed statements.
 use Rattle.std.proofs.Common.{◌≡◌, ◌⊎◌, inl, inr, ℕ, zero, suc, ◌+◌, ◌<◌, List, [], ◌∷◌, ◌++◌, Bool, true, false, ◌||◌, Option, Some, None, refl, sym, ap, ◌∙◌, subst}
 use Rattle.std.proofs.lemmas.Bool.{or_left, or_right}
+use Rattle.wy_lemmas.proofs.Choices.{unlike as true_false}
 use Rattle.wy_value.specs.Datum.{Datum, Truth}
 use Rattle.wy_core.specs.Types.{Ty, InterTy}
 use Rattle.wy_core.specs.CoreTree as tree
@@ -8,17 +9,17 @@ use Rattle.wy_core.specs.CoreTree.{Expr, Exprs, Step, IndexStep, FieldStep, Stmt
 use Rattle.wy_term.specs.declared.cond.CondKind.{CondKind}
 use Rattle.wy_term.specs.declared.cond.CondKind.TheVariants as kind
 use Rattle.wy_types.specs.Names.{Declared, Up}
-use Rattle.wy_environment.specs.Slots.{slot_at}
-use Rattle.wy_environment.specs.Variables.{Environment, given, changed, type_of}
-use Rattle.wy_typing.specs.Outcomes.{Gives}
-use Rattle.wy_typing.specs.Narrowing.{is_among}
-use Rattle.wy_typing.specs.Contexts.{Program}
-use Rattle.wy_typing.specs.Joins.{Joined}
-use Rattle.wy_typing.specs.States.{State, broken, declare, with_flow, with_env}
-use Rattle.wy_typing.specs.Assigned.{assigned_in}
-use Rattle.wy_typing.specs.Paths.{Updated}
-use Rattle.wy_typing.specs.Programs.{result_type}
-use Rattle.wy_typing.specs.Statements.{TypedStmt, TypedBlock}
+use Rattle.wy_sound_statements.specs.wy_flow_spec.environment.Slots.{slot_at}
+use Rattle.wy_sound_statements.specs.wy_flow_spec.environment.Variables.{Environment, given, changed, type_of}
+use Rattle.wy_sound_statements.specs.wy_flow_spec.typing.Outcomes.{Gives}
+use Rattle.wy_sound_statements.specs.wy_flow_spec.typing.Narrowing.{is_among}
+use Rattle.wy_sound_statements.specs.wy_flow_spec.typing.Contexts.{Program}
+use Rattle.wy_sound_statements.specs.wy_flow_spec.typing.Joins.{Joined}
+use Rattle.wy_sound_statements.specs.wy_flow_spec.typing.States.{State, broken, declare, with_flow, with_env}
+use Rattle.wy_sound_statements.specs.wy_flow_spec.typing.Assigned.{assigned_in}
+use Rattle.wy_sound_statements.specs.wy_flow_spec.typing.Paths.{Updated}
+use Rattle.wy_sound_statements.specs.wy_flow_spec.typing.Programs.{result_type}
+use Rattle.wy_sound_statements.specs.wy_flow_spec.typing.Statements.{TypedStmt, TypedBlock}
 use Rattle.wy_sem.specs.Meter.{Meter, Outcome, Done, Fault, Run, ◌>>=◌, check, choose}
 use Rattle.wy_sem.specs.Operations.{needed, Slot, updated}
 use Rattle.wy_sem.specs.Expressions as sem
@@ -26,24 +27,24 @@ use Rattle.wy_sem.specs.Expressions.{Store, slot, put}
 use Rattle.wy_sem.specs.TypeTests.{set_if}
 use Rattle.wy_sem.specs.Statements as run
 use Rattle.wy_sem.specs.Statements.{Exit, Went, Broke, Continued, Gave, Frame, type_at}
-use Rattle.wy_conditions.specs.Sizes.{exprs_in, exprs_in_list, exprs_in_path, exprs_in_stmt, exprs_in_block}
-use Rattle.wy_conditions.specs.Numbered.{Node, numbered, numbered_all, numbered_path, numbered_stmt, numbered_block}
-use Rattle.wy_conditions.specs.Owed.{assume}
-use Rattle.wy_conditions.specs.Making.{formula, denied}
-use Rattle.wy_conditions.specs.Spots.{Spot, Flow, is_set, mark, as_list, go_on, followed}
-use Rattle.wy_conditions.specs.Assigned.{assigns, assigns_in}
-use Rattle.wy_conditions.specs.Statements.{Body, expr, where_true, where_false, exec, exec_all}
-use Rattle.wy_sound_expressions.specs.Types.{is_in}
-use Rattle.wy_sound_joins.specs.Joins.{IsOne}
-use Rattle.wy_sound_points.proofs.SetLemmas.{Point, PointIf, point_more, with_point}
-use Rattle.wy_sound_points.proofs.StayLemmas.{expr_up, statement_points, block_points}
-use Rattle.wy_sound_frames.specs.Frames.{unsets, unsets_in, Keeps}
-use Rattle.wy_sound_frames.proofs.EveryLemmas.{Every, every_bind, every_map, every_told, every_spend, every_check, every_choose, every_needed}
-use Rattle.wy_sound_frames.proofs.FrameLemmas.{statements_keep}
-use Rattle.wy_sound_parts.proofs.NormLemmas.{norms_same}
-use Rattle.wy_sound_kinds.specs.Bounded.{IsBounded}
-use Rattle.wy_sound_kinds.specs.Kinds.{Kind}
-use Rattle.wy_sound_kinds.proofs.TypeLemmas.{then_gives, given_is}
+use Rattle.wy_vc_spec.specs.Sizes.{exprs_in, exprs_in_list, exprs_in_path, exprs_in_stmt, exprs_in_block}
+use Rattle.wy_vc_spec.specs.Numbered.{Node, numbered, numbered_all, numbered_path, numbered_stmt, numbered_block}
+use Rattle.wy_vc_spec.specs.Owed.{assume}
+use Rattle.wy_vc_spec.specs.Making.{formula, denied}
+use Rattle.wy_vc_spec.specs.Spots.{Spot, Flow, is_set, mark, as_list, go_on, followed}
+use Rattle.wy_vc_spec.specs.Assigned.{assigns, assigns_in}
+use Rattle.wy_vc_spec.specs.Statements.{Body, expr, where_true, where_false, exec, exec_all}
+use Rattle.wy_sound_statements.specs.wy_sound_walks.expressions.Types.{is_in}
+use Rattle.wy_sound_statements.specs.wy_sound_walks.joins.Joins.{IsOne}
+use Rattle.wy_sound_statements.proofs.wy_sound_walks_proofs.points_lemmas.SetLemmas.{Point, PointIf, point_more, with_point}
+use Rattle.wy_sound_statements.proofs.wy_sound_walks_proofs.points_lemmas.StayLemmas.{expr_up, statement_points, block_points}
+use Rattle.wy_sound_statements.specs.wy_sound_kinds.frames.Frames.{unsets, unsets_in, Keeps}
+use Rattle.wy_sound_statements.proofs.wy_sound_kinds_proofs.frames_lemmas.EveryLemmas.{Every, every_bind, every_map, every_told, every_spend, every_check, every_choose, every_needed}
+use Rattle.wy_sound_statements.proofs.wy_sound_kinds_proofs.frames_lemmas.FrameLemmas.{statements_keep}
+use Rattle.wy_sound_statements.proofs.wy_types_laws_proofs.parts_lemmas.NormLemmas.{norms_same}
+use Rattle.wy_sound_statements.specs.wy_sound_kinds.Bounded.{IsBounded}
+use Rattle.wy_sound_statements.specs.wy_sound_kinds.Kinds.{Kind}
+use Rattle.wy_sound_statements.proofs.wy_sound_kinds_proofs.TypeLemmas.{then_gives, given_is}
 use Rattle.wy_sound_statements.specs.Ends.{frame_at}
 use Rattle.wy_sound_statements.proofs.PlaceLemmas.{one_left, one_right}
 use Rattle.wy_sound_programs.specs.Scopes.{Scope, Scoped, AllScoped}
@@ -57,7 +58,7 @@ use Rattle.wy_sound_programs.proofs.PartLemmas.{normal_parts, declaration_parts,
 use Rattle.wy_sound_programs.proofs.ScopeLemmas.{all_stay_declared, not_unset, none_unset, all_among}
 use Rattle.wy_sound_programs.proofs.GrewLemmas.{grew, all_grew}
 use Rattle.wy_sound_programs.proofs.HeadLemmas.{Headed, headed}
-use Rattle.wy_sound_programs.proofs.StaticLemmas.{true_false, MarksAre, EndStands, Static, static, all_static, changed_stands, begin_stands, test_has, break_has}
+use Rattle.wy_sound_programs.proofs.StaticLemmas.{MarksAre, EndStands, Static, static, all_static, changed_stands, begin_stands, test_has, break_has}
 use Rattle.wy_sound_programs.proofs.UpdateLemmas.{Replaced, path_leads}
 use Rattle.wy_sound_programs.proofs.ValueLemmas.{value, quiet_value, truth_of, free_at, stored_in}
 use Rattle.wy_sound_programs.proofs.StoreLemmas.{in_both, bounded_at, fewer, put_holds, unset_holds, changed_holds, meets_holds, Renews, carry, head_holds, head_renews}

@@ -1,17 +1,18 @@
 -- Variables that were declared before a statement stay so, and it neither declares them nor unsets them; and what it assigns is found by typing.
-use Rattle.std.proofs.Common.{◌≡◌, ◌⊎◌, inl, inr, ℕ, ◌+◌, List, [], ◌∷◌, ◌++◌, Bool, true, false, cond, ◌||◌, ◌==◌, eqb-true, Option, Some, None, refl, sym, ap, ◌∙◌, subst, arith}
+use Rattle.std.proofs.Common.{◌≡◌, ◌⊎◌, inl, inr, ℕ, ◌+◌, List, [], ◌∷◌, ◌++◌, Bool, true, false, cond, ◌||◌, ◌==◌, eqb-true, Option, Some, None, refl, sym, ap, ◌∙◌, subst}
 use Rattle.std.proofs.lemmas.Bool.{or_cases, or_from, or_left, or_right}
 use Rattle.wy_core.specs.Types.{Ty}
 use Rattle.wy_core.specs.CoreTree.{Stmt, DeclareStmt, AssignStmt, CallStmt, ReturnStmt, AssertStmt, BreakStmt, ContinueStmt, SkipStmt, FailStmt, IfStmt, WhileStmt, Stmts, NoStmts, MoreStmts}
-use Rattle.wy_environment.specs.Slots.{slot_at}
-use Rattle.wy_typing.specs.Narrowing.{is_among, with_variable}
-use Rattle.wy_typing.specs.Assigned.{assigned_by, assigned_in}
-use Rattle.wy_conditions.specs.Sizes.{exprs_in, exprs_in_list, exprs_in_stmt, exprs_in_block}
-use Rattle.wy_conditions.specs.Numbered.{numbered_stmt, numbered_block}
-use Rattle.wy_conditions.specs.Assigned.{assigns, assigns_in}
-use Rattle.wy_sound_frames.specs.Frames.{unsets, unsets_in}
+use Rattle.wy_sound_statements.specs.wy_flow_spec.environment.Slots.{slot_at}
+use Rattle.wy_lemmas.proofs.Choices.{eqb_self, false_true as no_truth, either_of as either}
+use Rattle.wy_sound_statements.specs.wy_flow_spec.typing.Narrowing.{is_among, with_variable}
+use Rattle.wy_sound_statements.specs.wy_flow_spec.typing.Assigned.{assigned_by, assigned_in}
+use Rattle.wy_vc_spec.specs.Sizes.{exprs_in, exprs_in_list, exprs_in_stmt, exprs_in_block}
+use Rattle.wy_vc_spec.specs.Numbered.{numbered_stmt, numbered_block}
+use Rattle.wy_vc_spec.specs.Assigned.{assigns, assigns_in}
+use Rattle.wy_sound_statements.specs.wy_sound_kinds.frames.Frames.{unsets, unsets_in}
 use Rattle.wy_sound_programs.specs.Scopes.{Scope, declares, declares_in, Scoped, AllScoped}
-use Rattle.wy_sound_programs.proofs.SlotLemmas.{no_slot, no_truth, slot_other, same_or_apart}
+use Rattle.wy_sound_programs.proofs.SlotLemmas.{no_slot, slot_other, same_or_apart}
 
 -- a variable that is declared isn't one that isn't
 new_apart : (slots : List (Option Ty)) (x y : ℕ) (t : Ty) → slot_at slots x ≡ None → slot_at slots y ≡ Some t → x ≡ y → ⊥
@@ -65,13 +66,6 @@ module _ (c : Scope) (x : ℕ) (t : Ty) where
     none_unset (MoreStmts first rest) k slots h e = or_from _ _ (not_unset first k slots h.0 e) (none_unset rest (k + exprs_in_stmt first) (declares first slots) h.1 (stays_declared first slots h.0 e))
 
 -- ---- what is assigned
-
-either : {A B C : Type 0} → A ⊎ B → (A → C) → (B → C) → C
-either (inl a) f g = f a
-either (inr b) f g = g b
-
-eqb_self : (n : ℕ) → (n == n) ≡ true
-eqb_self n = search (arith)
 
 among_end : (xs : List ℕ) (x : ℕ) → is_among (xs ++ x ∷ []) x ≡ true
 among_end [] x = or_left (x == x) false (eqb_self x)

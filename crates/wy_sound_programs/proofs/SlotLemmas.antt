@@ -1,18 +1,13 @@
 -- Types of variables by their numbers, marks, and types under changes.
-use Rattle.std.proofs.Common.{◌≡◌, ◌⊎◌, inl, inr, ℕ, zero, suc, List, [], ◌∷◌, Bool, true, false, cond, ◌==◌, eqb-true, Option, Some, None, refl, sym, ap, ◌∙◌, subst, arith}
+use Rattle.std.proofs.Common.{◌≡◌, ◌⊎◌, inl, inr, ℕ, zero, suc, List, [], ◌∷◌, Bool, true, false, cond, ◌==◌, eqb-true, Option, Some, None, refl, sym, ap, ◌∙◌, subst}
 use Rattle.wy_core.specs.Types.{Ty}
-use Rattle.wy_environment.specs.Slots.{slot_at, put_slot}
-use Rattle.wy_environment.specs.Variables.{Environment, Changes, void_type, or_void, with_change, latest, type_of, given, changed}
-use Rattle.wy_conditions.specs.Spots.{is_set, mark}
+use Rattle.wy_sound_statements.specs.wy_flow_spec.environment.Slots.{slot_at, put_slot}
+use Rattle.wy_sound_statements.specs.wy_flow_spec.environment.Variables.{Environment, Changes, void_type, or_void, with_change, latest, type_of, given, changed}
+use Rattle.wy_vc_spec.specs.Spots.{is_set, mark}
+use Rattle.wy_lemmas.proofs.Choices.{apart_of}
 use Rattle.wy_sound_programs.specs.Typed.{Has}
 
 -- ---- numbers
-
-eqb_self : (n : ℕ) → (n == n) ≡ true
-eqb_self n = search (arith)
-
-pub apart_of : (x y : ℕ) → (x == y) ≡ false → x ≡ y → ⊥
-apart_of x y q e = let r : (x == y) ≡ true = subst (λ (z : ℕ). (x == z) ≡ true) e (eqb_self x) in absurd (cc (q, r))
 
 pub same_or_apart : (x y : ℕ) → (x ≡ y) ⊎ ((x == y) ≡ false)
 same_or_apart x y = by (x == y) refl where
@@ -22,9 +17,6 @@ same_or_apart x y = by (x == y) refl where
 
 pub apart_back : (x y : ℕ) → (x == y) ≡ false → y ≡ x → ⊥
 apart_back x y q e = apart_of x y q (sym e)
-
-pub no_truth : {X : Type 0} → false ≡ true → X
-no_truth e = absurd cc
 
 -- ---- slots
 

@@ -2,32 +2,33 @@
 use Rattle.std.proofs.Common.{◌≡◌, ◌⊎◌, inl, inr, ℕ, ◌+◌, List, [], ◌∷◌, ◌++◌, Bool, true, false, ◌==◌, Option, Some, None, refl, sym, ap, ◌∙◌, subst}
 use Rattle.wy_core.specs.Types.{Ty, InterTy}
 use Rattle.wy_core.specs.CoreTree.{Expr, Stmt, DeclareStmt, AssignStmt, CallStmt, ReturnStmt, AssertStmt, BreakStmt, ContinueStmt, SkipStmt, FailStmt, IfStmt, WhileStmt, Stmts, NoStmts, MoreStmts}
+use Rattle.wy_lemmas.proofs.Choices.{apart_of, unlike as true_false}
 use Rattle.wy_types.specs.Names.{Declared}
-use Rattle.wy_environment.specs.Slots.{slot_at, put_slot}
-use Rattle.wy_environment.specs.Variables.{Environment, given, changed}
-use Rattle.wy_typing.specs.Outcomes.{Gives}
-use Rattle.wy_typing.specs.Contexts.{Program, Found}
-use Rattle.wy_typing.specs.Joins.{Joined}
-use Rattle.wy_typing.specs.States.{State, left, broken, declare, with_flow, with_env}
-use Rattle.wy_typing.specs.Assigned.{assigned_in}
-use Rattle.wy_typing.specs.Loops.{Exit}
-use Rattle.wy_typing.specs.Statements.{TypedStmt, TypedBlock}
+use Rattle.wy_sound_statements.specs.wy_flow_spec.environment.Slots.{slot_at, put_slot}
+use Rattle.wy_sound_statements.specs.wy_flow_spec.environment.Variables.{Environment, given, changed}
+use Rattle.wy_sound_statements.specs.wy_flow_spec.typing.Outcomes.{Gives}
+use Rattle.wy_sound_statements.specs.wy_flow_spec.typing.Contexts.{Program, Found}
+use Rattle.wy_sound_statements.specs.wy_flow_spec.typing.Joins.{Joined}
+use Rattle.wy_sound_statements.specs.wy_flow_spec.typing.States.{State, left, broken, declare, with_flow, with_env}
+use Rattle.wy_sound_statements.specs.wy_flow_spec.typing.Assigned.{assigned_in}
+use Rattle.wy_sound_statements.specs.wy_flow_spec.typing.Loops.{Exit}
+use Rattle.wy_sound_statements.specs.wy_flow_spec.typing.Statements.{TypedStmt, TypedBlock}
 use Rattle.wy_sem.specs.Statements.{type_at}
-use Rattle.wy_conditions.specs.Sizes.{exprs_in, exprs_in_list, exprs_in_stmt, exprs_in_block}
-use Rattle.wy_conditions.specs.Numbered.{Node, numbered, numbered_stmt, numbered_block}
-use Rattle.wy_conditions.specs.Owed.{assume}
-use Rattle.wy_conditions.specs.Making.{formula, denied}
-use Rattle.wy_conditions.specs.Spots.{Spot, Flow, is_set, mark, as_list, go_on, followed}
-use Rattle.wy_conditions.specs.Joins.{meet}
-use Rattle.wy_conditions.specs.Statements.{Body, words, expr, where_true, where_false, exec, exec_all}
-use Rattle.wy_sound_joins.specs.Joins.{IsOne}
-use Rattle.wy_sound_points.proofs.SetLemmas.{Point, PointIf, point_more, with_point}
-use Rattle.wy_sound_points.proofs.StayLemmas.{expr_up, statement_points, block_points}
+use Rattle.wy_vc_spec.specs.Sizes.{exprs_in, exprs_in_list, exprs_in_stmt, exprs_in_block}
+use Rattle.wy_vc_spec.specs.Numbered.{Node, numbered, numbered_stmt, numbered_block}
+use Rattle.wy_vc_spec.specs.Owed.{assume}
+use Rattle.wy_vc_spec.specs.Making.{formula, denied}
+use Rattle.wy_vc_spec.specs.Spots.{Spot, Flow, is_set, mark, as_list, go_on, followed}
+use Rattle.wy_vc_spec.specs.Joins.{meet}
+use Rattle.wy_vc_spec.specs.Statements.{Body, words, expr, where_true, where_false, exec, exec_all}
+use Rattle.wy_sound_statements.specs.wy_sound_walks.joins.Joins.{IsOne}
+use Rattle.wy_sound_statements.proofs.wy_sound_walks_proofs.points_lemmas.SetLemmas.{Point, PointIf, point_more, with_point}
+use Rattle.wy_sound_statements.proofs.wy_sound_walks_proofs.points_lemmas.StayLemmas.{expr_up, statement_points, block_points}
 use Rattle.wy_sound_statements.proofs.PlaceLemmas.{one_left, one_right}
-use Rattle.wy_sound_kinds.proofs.TypeLemmas.{then_gives, given_is}
+use Rattle.wy_sound_statements.proofs.wy_sound_kinds_proofs.TypeLemmas.{then_gives, given_is}
 use Rattle.wy_sound_programs.specs.Scopes.{Scope, Scoped, AllScoped}
 use Rattle.wy_sound_programs.specs.Typed.{Has, Stands}
-use Rattle.wy_sound_programs.proofs.SlotLemmas.{no_slot, apart_of, same_or_apart, slot_put, slot_other, mark_same, mark_other, given_reached, given_same, given_has, changed_reached, changed_has}
+use Rattle.wy_sound_programs.proofs.SlotLemmas.{no_slot, same_or_apart, slot_put, slot_other, mark_same, mark_other, given_reached, given_same, given_has, changed_reached, changed_has}
 use Rattle.wy_sound_programs.proofs.MarkLemmas.{MeetsIf}
 use Rattle.wy_sound_programs.proofs.LoopLemmas.{if_meets, clauses, head, test, turn, met, head_marks, body_point, loop_meets}
 use Rattle.wy_sound_programs.proofs.JoinLemmas.{HasIf, reached_left, reached_right, both_dead, joined_has, exit_reached, exit_has}
@@ -35,9 +36,6 @@ use Rattle.wy_sound_programs.proofs.PartLemmas.{normal_parts, declaration_parts,
 use Rattle.wy_sound_programs.proofs.ScopeLemmas.{all_stay_declared}
 use Rattle.wy_sound_programs.proofs.GrewLemmas.{one_end, grew, all_grew}
 use Rattle.wy_sound_programs.proofs.HeadLemmas.{Headed, Old, New, headed}
-
-pub true_false : {X : Type 0} (b : Bool) → b ≡ true → b ≡ false → X
-true_false b e f = absurd (cc (e, f))
 
 pub one_of_both : {X : Type 0} (x : X) (ps qs : List X) → IsOne x (ps ++ qs) → IsOne x ps ⊎ IsOne x qs
 one_of_both x [] qs h = inr h

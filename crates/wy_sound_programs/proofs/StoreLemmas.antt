@@ -1,25 +1,26 @@
 -- Stores at points of typing: with another value for a variable, behind a test, where paths meet, and along a loop.
 use Rattle.std.proofs.Common.{◌≡◌, ◌⊎◌, inl, inr, ℕ, ◌<◌, List, [], Bool, true, false, ◌==◌, Option, Some, None, refl, sym, ap, ◌∙◌, subst}
+use Rattle.wy_lemmas.proofs.Choices.{both_true as two_true, apart_of, false_true as no_truth}
+use Rattle.wy_sound_statements.proofs.wy_sound_kinds_proofs.frames_lemmas.FrameLemmas.{put_other}
 use Rattle.wy_value.specs.Datum.{Datum}
 use Rattle.wy_core.specs.Types.{Ty, InterTy}
 use Rattle.wy_types.specs.Names.{Declared, Up}
 use Rattle.wy_types.specs.Recursion.{RecurThroughParts}
-use Rattle.wy_types.proofs.TruthLemmas.{two_true}
-use Rattle.wy_parts.specs.Norms.{IsNorm}
-use Rattle.wy_environment.specs.Slots.{slot_at}
-use Rattle.wy_environment.specs.Variables.{Environment, Changes, given, changed, type_of}
+use Rattle.wy_subtype_parts.specs.Norms.{IsNorm}
+use Rattle.wy_sound_statements.specs.wy_flow_spec.environment.Slots.{slot_at}
+use Rattle.wy_sound_statements.specs.wy_flow_spec.environment.Variables.{Environment, Changes, given, changed, type_of}
 use Rattle.wy_sem.specs.Expressions.{Store, slot, put}
 use Rattle.wy_sem.specs.Statements.{type_at}
-use Rattle.wy_conditions.specs.Spots.{Spot, is_set, mark}
-use Rattle.wy_sound_expressions.specs.Types.{is_in}
-use Rattle.wy_sound_frames.specs.Frames.{Keeps}
-use Rattle.wy_sound_parts.proofs.NormLemmas.{norms_same}
-use Rattle.wy_sound_kinds.specs.Bounded.{IsBounded}
-use Rattle.wy_sound_kinds.specs.Kinds.{HasTypes}
-use Rattle.wy_sound_kinds.proofs.TypeLemmas.{put_length, put_same, put_other}
+use Rattle.wy_vc_spec.specs.Spots.{Spot, is_set, mark}
+use Rattle.wy_sound_statements.specs.wy_sound_walks.expressions.Types.{is_in}
+use Rattle.wy_sound_statements.specs.wy_sound_kinds.frames.Frames.{Keeps}
+use Rattle.wy_sound_statements.proofs.wy_types_laws_proofs.parts_lemmas.NormLemmas.{norms_same}
+use Rattle.wy_sound_statements.specs.wy_sound_kinds.Bounded.{IsBounded}
+use Rattle.wy_sound_statements.specs.wy_sound_kinds.Kinds.{HasTypes}
+use Rattle.wy_sound_statements.proofs.wy_sound_kinds_proofs.TypeLemmas.{put_length, put_same}
 use Rattle.wy_sound_statements.proofs.StoreLemmas.{declared_put, declared_unset}
 use Rattle.wy_sound_programs.specs.Typed.{Has, Holds}
-use Rattle.wy_sound_programs.proofs.SlotLemmas.{no_truth, apart_of, same_or_apart, same_slot, mark_same, mark_other, given_reached, given_same, given_other, type_here, type_same, changed_types}
+use Rattle.wy_sound_programs.proofs.SlotLemmas.{same_or_apart, same_slot, mark_same, mark_other, given_reached, given_same, given_other, type_here, type_same, changed_types}
 use Rattle.wy_sound_programs.proofs.JoinLemmas.{In}
 use Rattle.wy_sound_programs.proofs.HeadLemmas.{Headed, Old, New}
 

@@ -1,59 +1,59 @@
 -- Typed statements meet what is asked of their run.
 use Rattle.std.proofs.Common.{◌≡◌, ◌⊎◌, inl, inr, ℕ, zero, suc, ◌+◌, List, [], ◌∷◌, length, Bool, true, false, Option, Some, None, refl, sym, ap, ◌∙◌, subst, arith}
 use Rattle.std.specs.Prelude.{slice_get}
+use Rattle.wy_lemmas.proofs.Choices.{false_true as no_truth}
 use Rattle.wy_value.specs.Datum.{Datum, Truth}
 use Rattle.wy_core.specs.Types.{Ty}
 use Rattle.wy_core.specs.CoreTree as tree
 use Rattle.wy_core.specs.CoreTree.{Expr, Exprs, Step, IndexStep, FieldStep, Stmt, DeclareStmt, AssignStmt, CallStmt, ReturnStmt, AssertStmt, BreakStmt, ContinueStmt, SkipStmt, FailStmt, IfStmt, WhileStmt, Stmts, NoStmts, MoreStmts}
 use Rattle.wy_types.specs.Names.{Up}
-use Rattle.wy_environment.specs.Slots.{slot_at}
-use Rattle.wy_environment.specs.Variables.{Environment, nothing_known, changed, type_of}
-use Rattle.wy_typing.specs.Outcomes.{Gives, gave}
-use Rattle.wy_typing.specs.Contexts.{Program, Found}
-use Rattle.wy_typing.specs.Expressions.{none_yet}
-use Rattle.wy_typing.specs.Loops.{ClausesTyped}
-use Rattle.wy_typing.specs.States.{State}
-use Rattle.wy_typing.specs.Paths.{Updated}
-use Rattle.wy_typing.specs.Programs.{result_type}
-use Rattle.wy_typing.specs.Statements.{FitsResult, TypedStmt, TypedBlock}
+use Rattle.wy_sound_statements.specs.wy_flow_spec.environment.Slots.{slot_at}
+use Rattle.wy_sound_statements.specs.wy_flow_spec.environment.Variables.{Environment, nothing_known, changed, type_of}
+use Rattle.wy_sound_statements.specs.wy_flow_spec.typing.Outcomes.{Gives, gave}
+use Rattle.wy_sound_statements.specs.wy_flow_spec.typing.Contexts.{Program, Found}
+use Rattle.wy_sound_statements.specs.wy_flow_spec.typing.Expressions.{none_yet}
+use Rattle.wy_sound_statements.specs.wy_flow_spec.typing.Loops.{ClausesTyped}
+use Rattle.wy_sound_statements.specs.wy_flow_spec.typing.States.{State}
+use Rattle.wy_sound_statements.specs.wy_flow_spec.typing.Paths.{Updated}
+use Rattle.wy_sound_statements.specs.wy_flow_spec.typing.Programs.{result_type}
+use Rattle.wy_sound_statements.specs.wy_flow_spec.typing.Statements.{FitsResult, TypedStmt, TypedBlock}
 use Rattle.wy_sem.specs.Meter.{Meter, Done}
 use Rattle.wy_sem.specs.Operations.{updated}
 use Rattle.wy_sem.specs.Expressions as sem
 use Rattle.wy_sem.specs.Expressions.{Store, slot}
 use Rattle.wy_sem.specs.Statements as run
 use Rattle.wy_sem.specs.Statements.{Exit, Went, Broke, Continued, Gave, Frame, type_at}
-use Rattle.wy_conditions.specs.Sizes.{exprs_in, exprs_in_list, exprs_in_path, exprs_in_stmt, exprs_in_block}
-use Rattle.wy_conditions.specs.Numbered.{Node, numbered, numbered_all, numbered_path, numbered_stmt, numbered_block}
-use Rattle.wy_conditions.specs.Owed.{assume}
-use Rattle.wy_conditions.specs.Making.{formula, denied}
-use Rattle.wy_conditions.specs.Spots.{Spot, Flow, is_set}
-use Rattle.wy_conditions.specs.Assigned.{assigns, assigns_in}
-use Rattle.wy_conditions.specs.Statements.{Body, expr, where_true, where_false, exec, exec_all}
-use Rattle.wy_sound_terms.specs.Kinds.{IsTruth}
-use Rattle.wy_sound_expressions.specs.Types.{is_in}
-use Rattle.wy_sound_expressions.specs.Suits.{Kinds, Each, Suits, AllSuit}
-use Rattle.wy_sound_expressions.proofs.LawLemmas.{are_data}
-use Rattle.wy_sound_clauses.specs.Clauses.{AllFit}
-use Rattle.wy_sound_points.proofs.SetLemmas.{Point, PointIf, point_more, with_point, depend_from}
-use Rattle.wy_sound_points.proofs.StayLemmas.{expr_up, statement_points, block_points}
-use Rattle.wy_sound_frames.specs.Frames.{unsets}
-use Rattle.wy_sound_frames.proofs.EveryLemmas.{every_of}
-use Rattle.wy_sound_frames.proofs.FrameLemmas.{statements_keep}
-use Rattle.wy_sound_kinds.specs.Ready.{count_of, AllReady}
-use Rattle.wy_sound_kinds.specs.Kinds.{Kind}
-use Rattle.wy_sound_kinds.proofs.TypeLemmas.{then_gives, AllIn}
-use Rattle.wy_sound_kinds.proofs.KindLemmas as typed
-use Rattle.wy_sound_kinds.proofs.KindLemmas.{kinds}
-use Rattle.wy_sound_suits.specs.Laws.{Begins}
-use Rattle.wy_sound_suits.proofs.FlowLemmas.{begins_more}
-use Rattle.wy_sound_suits.proofs.KindLemmas.{truth_in}
-use Rattle.wy_sound_suits.proofs.SuitLemmas.{all_suit}
+use Rattle.wy_vc_spec.specs.Sizes.{exprs_in, exprs_in_list, exprs_in_path, exprs_in_stmt, exprs_in_block}
+use Rattle.wy_vc_spec.specs.Numbered.{Node, numbered, numbered_all, numbered_path, numbered_stmt, numbered_block}
+use Rattle.wy_vc_spec.specs.Owed.{assume}
+use Rattle.wy_vc_spec.specs.Making.{formula, denied}
+use Rattle.wy_vc_spec.specs.Spots.{Spot, Flow, is_set}
+use Rattle.wy_vc_spec.specs.Assigned.{assigns, assigns_in}
+use Rattle.wy_vc_spec.specs.Statements.{Body, expr, where_true, where_false, exec, exec_all}
+use Rattle.wy_sound_statements.specs.wy_sound_terms.operations.Kinds.{IsTruth}
+use Rattle.wy_sound_statements.specs.wy_sound_walks.expressions.Types.{is_in}
+use Rattle.wy_sound_statements.specs.wy_sound_walks.expressions.Suits.{Kinds, Each, Suits, AllSuit}
+use Rattle.wy_sound_statements.proofs.wy_sound_walks_proofs.expressions_lemmas.LawLemmas.{are_data}
+use Rattle.wy_sound_statements.specs.wy_sound_walks.clauses.Clauses.{AllFit}
+use Rattle.wy_sound_statements.proofs.wy_sound_walks_proofs.points_lemmas.SetLemmas.{Point, PointIf, point_more, with_point, depend_from}
+use Rattle.wy_sound_statements.proofs.wy_sound_walks_proofs.points_lemmas.StayLemmas.{expr_up, statement_points, block_points}
+use Rattle.wy_sound_statements.specs.wy_sound_kinds.frames.Frames.{unsets}
+use Rattle.wy_sound_statements.proofs.wy_sound_kinds_proofs.frames_lemmas.EveryLemmas.{every_of}
+use Rattle.wy_sound_statements.proofs.wy_sound_kinds_proofs.frames_lemmas.FrameLemmas.{statements_keep}
+use Rattle.wy_sound_statements.specs.wy_sound_kinds.Ready.{count_of, AllReady}
+use Rattle.wy_sound_statements.specs.wy_sound_kinds.Kinds.{Kind}
+use Rattle.wy_sound_statements.proofs.wy_sound_kinds_proofs.TypeLemmas.{then_gives, AllIn}
+use Rattle.wy_sound_statements.proofs.wy_sound_kinds_proofs.KindLemmas as typed
+use Rattle.wy_sound_statements.proofs.wy_sound_kinds_proofs.KindLemmas.{kinds}
+use Rattle.wy_sound_statements.specs.wy_sound_kinds.suits.Laws.{Begins}
+use Rattle.wy_sound_statements.proofs.wy_sound_kinds_proofs.suits_lemmas.FlowLemmas.{begins_more}
+use Rattle.wy_sound_statements.proofs.wy_sound_kinds_proofs.suits_lemmas.KindLemmas.{truth_in}
+use Rattle.wy_sound_statements.proofs.wy_sound_kinds_proofs.suits_lemmas.SuitLemmas.{all_suit}
 use Rattle.wy_sound_statements.specs.StatementSuits.{IsTested, Leads, AtTurns, KeepFits, Behind, UpdateSuits, StmtSuits, BlockSuits}
 use Rattle.wy_sound_statements.specs.Ends.{frame_at, code_kinds}
 use Rattle.wy_sound_programs.specs.Scopes.{Scope, Scoped, AllScoped}
 use Rattle.wy_sound_programs.specs.Along.{CodeReady, PathReady, WhereGoes, ReadyAlong, AllReadyAlong}
 use Rattle.wy_sound_programs.specs.Typed.{Setting, scope_of, Grounds, Stands, Holds, nothing_kept, TypedBlocksSuit}
-use Rattle.wy_sound_programs.proofs.SlotLemmas.{no_truth}
 use Rattle.wy_sound_programs.proofs.LoopLemmas.{clauses, inner, head, test, turn, head_marks, body_point}
 use Rattle.wy_sound_programs.proofs.PartLemmas.{Test, declaration_parts, assignment_parts, into_parts, new_inside, Update, update_parts, path_parts, Call, call_parts, return_parts, assertion_parts, on_yes, on_no, if_parts, in_loop, Loop, loop_parts}
 use Rattle.wy_sound_programs.proofs.ScopeLemmas.{all_stay_declared, not_unset}

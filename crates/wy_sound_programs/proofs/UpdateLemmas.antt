@@ -1,38 +1,37 @@
 -- Updates of parts of a variable: what the steps of a typed path meet, and the type of the datum with a new value at the end of the path.
 use Rattle.std.proofs.Common.{◌≡◌, inl, inr, ℕ, zero, suc, ◌+◌, List, [], ◌∷◌, length, Bool, true, false, cond, Option, Some, None, pos, int_le, bytes_eq, refl, sym, ap, ◌∙◌, subst, arith}
 use Rattle.std.specs.Prelude.{is_some}
+use Rattle.wy_lemmas.proofs.Choices.{or_left, both_true as two_true, or_right}
 use Rattle.wy_value.specs.Datum.{Datum, Null, Truth, Whole, Array, Record, Data, no_items, item, Fields, no_fields, field}
 use Rattle.wy_value.specs.Values.{Rise, length_of, names_of}
 use Rattle.wy_core.specs.Types.{Ty, ArrayTy, UnionTy}
 use Rattle.wy_core.specs.CoreTree.{Expr, Step, IndexStep, FieldStep}
 use Rattle.wy_term.specs.declared.cond.CondKind.TheVariants as kind
 use Rattle.wy_types.specs.Names.{Declared, Up, each_in_ty, item_readers}
-use Rattle.wy_types.proofs.TruthLemmas.{two_true}
-use Rattle.wy_subtype.proofs.MarkLemmas.{or_left, or_right}
-use Rattle.wy_parts.specs.Items.{IsItem}
-use Rattle.wy_parts.specs.Fields.{AllHave, has_value_at, value_at}
-use Rattle.wy_environment.specs.Variables.{Environment}
-use Rattle.wy_typing.specs.Outcomes.{Gives}
-use Rattle.wy_typing.specs.Paths.{Reached, Updated}
+use Rattle.wy_subtype_parts.specs.Items.{IsItem}
+use Rattle.wy_subtype_parts.specs.Fields.{AllHave, has_value_at, value_at}
+use Rattle.wy_sound_statements.specs.wy_flow_spec.environment.Variables.{Environment}
+use Rattle.wy_sound_statements.specs.wy_flow_spec.typing.Outcomes.{Gives}
+use Rattle.wy_sound_statements.specs.wy_flow_spec.typing.Paths.{Reached, Updated}
 use Rattle.wy_sem.specs.Meter.{Meter, Done, Run, ◌>>=◌, check}
 use Rattle.wy_sem.specs.Operations.{longest, nat_of, is_index, item_at, set_item, find, set_field, as_number, needed, indexed, or_null, Slot, ItemSlot, FieldSlot, updated}
 use Rattle.wy_sem.specs.Expressions as sem
 use Rattle.wy_sem.specs.Expressions.{Store}
 use Rattle.wy_sem.specs.Statements as run
-use Rattle.wy_conditions.specs.Sizes.{exprs_in, exprs_in_step, exprs_in_path}
-use Rattle.wy_conditions.specs.Numbered.{Node, numbered, numbered_path}
-use Rattle.wy_conditions.specs.Spots.{Spot, is_set}
-use Rattle.wy_sound_expressions.specs.Suits.{Kinds}
-use Rattle.wy_sound_frames.proofs.EveryLemmas.{Every, every_bind, every_check, every_number, every_items, every_fields, every_needed}
-use Rattle.wy_sound_parts.proofs.ItemLemmas.{items_are_in}
-use Rattle.wy_sound_parts.proofs.ValueLemmas.{values_are_in}
-use Rattle.wy_sound_kinds.specs.Bounded.{IsBounded, AreBounded, FieldsBounded}
-use Rattle.wy_sound_kinds.specs.Kinds.{Kind}
-use Rattle.wy_sound_kinds.proofs.TypeLemmas.{then_gives, given_is}
-use Rattle.wy_sound_kinds.proofs.DatumLemmas.{index_below, item_is, item_bounded, found_at, field_bounded}
-use Rattle.wy_sound_suits.specs.Laws.{Begins}
-use Rattle.wy_sound_suits.proofs.FlowLemmas.{FlowAll, begins_more}
-use Rattle.wy_sound_suits.proofs.KindLemmas.{array_in, whole_in}
+use Rattle.wy_vc_spec.specs.Sizes.{exprs_in, exprs_in_step, exprs_in_path}
+use Rattle.wy_vc_spec.specs.Numbered.{Node, numbered, numbered_path}
+use Rattle.wy_vc_spec.specs.Spots.{Spot, is_set}
+use Rattle.wy_sound_statements.specs.wy_sound_walks.expressions.Suits.{Kinds}
+use Rattle.wy_sound_statements.proofs.wy_sound_kinds_proofs.frames_lemmas.EveryLemmas.{Every, every_bind, every_check, every_number, every_items, every_fields, every_needed}
+use Rattle.wy_sound_statements.proofs.wy_types_laws_proofs.parts_lemmas.ItemLemmas.{items_are_in}
+use Rattle.wy_sound_statements.proofs.wy_types_laws_proofs.parts_lemmas.ValueLemmas.{values_are_in}
+use Rattle.wy_sound_statements.specs.wy_sound_kinds.Bounded.{IsBounded, AreBounded, FieldsBounded}
+use Rattle.wy_sound_statements.specs.wy_sound_kinds.Kinds.{Kind}
+use Rattle.wy_sound_statements.proofs.wy_sound_kinds_proofs.TypeLemmas.{then_gives, given_is}
+use Rattle.wy_sound_statements.proofs.wy_sound_kinds_proofs.DatumLemmas.{index_below, item_is, item_bounded, found_at, field_bounded}
+use Rattle.wy_sound_statements.specs.wy_sound_kinds.suits.Laws.{Begins}
+use Rattle.wy_sound_statements.proofs.wy_sound_kinds_proofs.suits_lemmas.FlowLemmas.{FlowAll, begins_more}
+use Rattle.wy_sound_statements.proofs.wy_sound_kinds_proofs.suits_lemmas.KindLemmas.{array_in, whole_in}
 use Rattle.wy_sound_statements.specs.StatementSuits.{PathSuits}
 use Rattle.wy_sound_statements.specs.Ends.{code_kinds}
 use Rattle.wy_sound_programs.specs.Along.{PathReady}

@@ -5,11 +5,11 @@ use Rattle.wy_core.specs.Types.{Ty}
 use Rattle.wy_core.specs.CoreTree.{Expr}
 use Rattle.wy_term.specs.declared.cond.CondKind.TheVariants as kind
 use Rattle.wy_types.specs.Names.{Declared, Up}
-use Rattle.wy_environment.specs.Variables.{Environment}
-use Rattle.wy_typing.specs.Outcomes.{Gives}
-use Rattle.wy_typing.specs.Contexts.{Program, Found}
-use Rattle.wy_typing.specs.Expressions.{TypedExpr}
-use Rattle.wy_typing.specs.Loops.{ClausesTyped}
+use Rattle.wy_sound_statements.specs.wy_flow_spec.environment.Variables.{Environment}
+use Rattle.wy_sound_statements.specs.wy_flow_spec.typing.Outcomes.{Gives}
+use Rattle.wy_sound_statements.specs.wy_flow_spec.typing.Contexts.{Program, Found}
+use Rattle.wy_sound_statements.specs.wy_flow_spec.typing.Expressions.{TypedExpr}
+use Rattle.wy_sound_statements.specs.wy_flow_spec.typing.Loops.{ClausesTyped}
 use Rattle.wy_sem.specs.Meter.{Meter, Outcome, Done, Fault, More, Spent, ◌>>=◌, check}
 use Rattle.wy_sem.specs.Operations.{as_truth}
 use Rattle.wy_sem.specs.Expressions as sem
@@ -17,20 +17,20 @@ use Rattle.wy_sem.specs.Expressions.{Store, put}
 use Rattle.wy_sem.specs.TypeTests.{is_constrained}
 use Rattle.wy_sem.specs.Statements as run
 use Rattle.wy_sem.specs.Statements.{Exit, Went, Frame, type_at}
-use Rattle.wy_conditions.specs.Numbered.{Node, numbered, numbered_list}
-use Rattle.wy_conditions.specs.Statements.{Body}
-use Rattle.wy_sound_expressions.specs.Types.{is_in}
-use Rattle.wy_sound_expressions.specs.Suits.{Kinds, Each, Suits, Answers}
-use Rattle.wy_sound_clauses.specs.Clauses.{AllFit}
-use Rattle.wy_sound_frames.proofs.EveryLemmas.{Every, every_bind, every_told, every_of, every_check, every_truth}
-use Rattle.wy_sound_kinds.specs.Bounded.{IsBounded}
-use Rattle.wy_sound_kinds.specs.Ready.{Rules, Ready}
-use Rattle.wy_sound_kinds.specs.Kinds.{Kind}
-use Rattle.wy_sound_kinds.proofs.KindLemmas.{kind as kind_of}
-use Rattle.wy_sound_suits.specs.Laws.{Begins}
-use Rattle.wy_sound_suits.proofs.SuitLemmas.{suits}
-use Rattle.wy_sound_fits.specs.Fit.{ClausesReady}
-use Rattle.wy_sound_fits.proofs.FitLemmas.{clauses_fit}
+use Rattle.wy_vc_spec.specs.Numbered.{Node, numbered, numbered_list}
+use Rattle.wy_vc_spec.specs.Statements.{Body}
+use Rattle.wy_sound_statements.specs.wy_sound_walks.expressions.Types.{is_in}
+use Rattle.wy_sound_statements.specs.wy_sound_walks.expressions.Suits.{Kinds, Each, Suits, Answers}
+use Rattle.wy_sound_statements.specs.wy_sound_walks.clauses.Clauses.{AllFit}
+use Rattle.wy_sound_statements.proofs.wy_sound_kinds_proofs.frames_lemmas.EveryLemmas.{Every, every_bind, every_told, every_of, every_check, every_truth}
+use Rattle.wy_sound_statements.specs.wy_sound_kinds.Bounded.{IsBounded}
+use Rattle.wy_sound_statements.specs.wy_sound_kinds.Ready.{Rules, Ready}
+use Rattle.wy_sound_statements.specs.wy_sound_kinds.Kinds.{Kind}
+use Rattle.wy_sound_statements.proofs.wy_sound_kinds_proofs.KindLemmas.{kind as kind_of}
+use Rattle.wy_sound_statements.specs.wy_sound_kinds.suits.Laws.{Begins}
+use Rattle.wy_sound_statements.proofs.wy_sound_kinds_proofs.suits_lemmas.SuitLemmas.{suits}
+use Rattle.wy_sound_statements.specs.wy_sound_kinds.fits.Fit.{ClausesReady}
+use Rattle.wy_sound_statements.proofs.wy_sound_kinds_proofs.fits_lemmas.FitLemmas.{clauses_fit}
 use Rattle.wy_sound_statements.specs.StatementSuits.{IsFree}
 use Rattle.wy_sound_statements.specs.Ends.{frame_at, code_kinds}
 use Rattle.wy_sound_programs.specs.Typed.{Setting, Grounds, Holds}

@@ -6,6 +6,7 @@ use Rattle.std.specs.List.{AllByRecursion}
 use Rattle.std.specs.List.Sorted.{IsStrictlySortedBy}
 use Rattle.std.specs.Ordering.{ordering_reverse}
 use Rattle.std.proofs.lemmas.Bool.{or_cases}
+use Rattle.wy_lemmas.proofs.Choices.{or_none as or_false, both_parts as both, or_left, both_true as two_true, or_right, or_assoc, false_true, either_of as either}
 use Rattle.wy_value.specs.Datum.{Datum, Record, Fields, no_fields, field}
 use Rattle.wy_value.specs.Values.{Rise, names_of}
 use Rattle.wy_sem.specs.Operations.{set_field}
@@ -21,30 +22,21 @@ use Rattle.wy_types.specs.Names.{Declared, Up}
 use Rattle.wy_types.specs.Recursion.{RecurThroughParts}
 use Rattle.wy_types.specs.Shape.{RecordShape, part_in, fields_in, atom_in, none_in, conjunct_in, any_in}
 use Rattle.wy_types.specs.Membership.{shape_of, field_readers, member}
-use Rattle.wy_types.specs.NodeLaws.{bytes_are}
+use Rattle.wy_types.specs.NodeLaws.{bytes_are, same_term_is}
 use Rattle.wy_types.specs.Questions.{numbered, first_part}
 use Rattle.wy_types.specs.Ranked.{IsRanked}
 use Rattle.wy_types.specs.Conjuncts.{same_term}
 use Rattle.wy_types.proofs.OnceLemmas.{any_in-united_conjuncts}
 use Rattle.wy_types.proofs.QuestionLemmas.{is_asked, question_ranked, first_agrees, second_agrees, conjuncts_agree}
 use Rattle.wy_types.proofs.RankedLemmas.{has_laws}
-use Rattle.wy_types.proofs.TermLemmas.{same_term_is, any_in-dnf_part}
-use Rattle.wy_types.proofs.TruthLemmas.{or_assoc, or_false, both, two_true}
+use Rattle.wy_types.proofs.TermLemmas.{any_in-dnf_part}
 use Rattle.wy_types.proofs.AskLemmas.{some_fields, ways_from-in, laws_of}
 use Rattle.wy_subtype.specs.Valued.{ways_of, all_ways, IsInhabited, AreInhabited}
-use Rattle.wy_subtype.proofs.MarkLemmas.{or_left, or_right}
 use Rattle.wy_subtype.proofs.ValueLemmas.{part_in-inside}
 use Rattle.wy_subtype.proofs.ValuedLemmas.{any_in-valued, valued_have}
-use Rattle.wy_parts.specs.Fields.{AllHave, atom_has, all_have}
-use Rattle.wy_updates.specs.Updates.{part_at, replaced, with_record, records_of, all_of, second_part, IsWith}
+use Rattle.wy_subtype_parts.specs.Fields.{AllHave, atom_has, all_have}
+use Rattle.wy_subtype_parts.specs.updates.Updates.{part_at, replaced, with_record, records_of, all_of, second_part, IsWith}
 use Rattle.wy_sound_programs.proofs.OtherLemmas.{some_other}
-
-false_true : {X : Type 0} → false ≡ true → X
-false_true e = absurd cc
-
-either : {A B C : Type 0} → A ⊎ B → (A → C) → (B → C) → C
-either (inl a) f g = f a
-either (inr b) f g = g b
 
 -- ---- names
 

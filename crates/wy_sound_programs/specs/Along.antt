@@ -2,13 +2,13 @@
 use Rattle.std.specs.Prelude.{◌≡◌, ℕ, ◌+◌, Bool, true, false, List, [], ◌∷◌, Option, Some, None}
 use Rattle.wy_core.specs.CoreTree.{Expr, Step, IndexStep, FieldStep, Stmt, DeclareStmt, AssignStmt, CallStmt, ReturnStmt, AssertStmt, BreakStmt, ContinueStmt, SkipStmt, FailStmt, IfStmt, WhileStmt, Stmts, NoStmts, MoreStmts}
 use Rattle.wy_term.specs.declared.cond.CondKind.TheVariants as kind
-use Rattle.wy_conditions.specs.Sizes.{exprs_in, exprs_in_list, exprs_in_stmt, exprs_in_block}
-use Rattle.wy_conditions.specs.Numbered.{Node, numbered, numbered_list, numbered_stmt, numbered_block}
-use Rattle.wy_conditions.specs.Clauses.{owe_clauses}
-use Rattle.wy_conditions.specs.Spots.{Spot, is_set, with_hyps}
-use Rattle.wy_conditions.specs.Statements.{Body, words, expr, renew, walk_clauses, where_true, where_false, exec, exec_all}
-use Rattle.wy_sound_kinds.specs.Ready.{Rules, count_of, Ready, AllReady}
-use Rattle.wy_sound_fits.specs.Fit.{ClausesReady}
+use Rattle.wy_vc_spec.specs.Sizes.{exprs_in, exprs_in_list, exprs_in_stmt, exprs_in_block}
+use Rattle.wy_vc_spec.specs.Numbered.{Node, numbered, numbered_list, numbered_stmt, numbered_block}
+use Rattle.wy_vc_spec.specs.Clauses.{owe_clauses}
+use Rattle.wy_vc_spec.specs.Spots.{Spot, is_set, with_hyps}
+use Rattle.wy_vc_spec.specs.Statements.{Body, words, expr, renew, walk_clauses, where_true, where_false, exec, exec_all}
+use Rattle.wy_sound_statements.specs.wy_sound_kinds.Ready.{Rules, count_of, Ready, AllReady}
+use Rattle.wy_sound_statements.specs.wy_sound_kinds.fits.Fit.{ClausesReady}
 
 -- what may be called with so many arguments: in expressions, and by statements; and how many variables there are
 pub record Allowed : Type 0 where

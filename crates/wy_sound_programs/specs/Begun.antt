@@ -11,23 +11,23 @@ use Rattle.wy_sem.specs.TypeTests.{Test, set_if}
 use Rattle.wy_sem.specs.Statements as run
 use Rattle.wy_sem.specs.Statements.{Exit, type_at}
 use Rattle.wy_sem.specs.Evaluation.{types_of, entry_of, frame_of}
-use Rattle.wy_conditions.specs.Numbered.{Node}
-use Rattle.wy_conditions.specs.Values.{named_in}
-use Rattle.wy_conditions.specs.Clauses.{assume_clauses}
-use Rattle.wy_conditions.specs.Walks.{Program}
-use Rattle.wy_conditions.specs.Spots.{is_set, with_hyps}
-use Rattle.wy_conditions.specs.Statements.{Renewed, renewed, exec_all}
-use Rattle.wy_conditions.specs.Programs.{enter, body_of, body_conditions}
-use Rattle.wy_sound_expressions.specs.Names.{Known, Stand}
-use Rattle.wy_sound_expressions.specs.Truth.{AreTrueBy}
-use Rattle.wy_sound_expressions.specs.Types.{is_in}
-use Rattle.wy_sound_expressions.specs.Written.{IsWritten}
-use Rattle.wy_sound_expressions.specs.Laws.{NamesTold, AreValTerms}
-use Rattle.wy_sound_clauses.specs.Clauses.{AreSafe, AllPass}
-use Rattle.wy_sound_joins.specs.Points.{IsPoint}
-use Rattle.wy_sound_calls.specs.CallLaws.{Checks, ClausesFit, KeepsContract, with_params, nothing_seen}
-use Rattle.wy_sound_kinds.specs.Bounded.{IsBounded}
-use Rattle.wy_sound_kinds.specs.Kinds.{HasValues}
+use Rattle.wy_vc_spec.specs.Numbered.{Node}
+use Rattle.wy_vc_spec.specs.Values.{named_in}
+use Rattle.wy_vc_spec.specs.Clauses.{assume_clauses}
+use Rattle.wy_vc_spec.specs.Walks.{Program}
+use Rattle.wy_vc_spec.specs.Spots.{is_set, with_hyps}
+use Rattle.wy_vc_spec.specs.Statements.{Renewed, renewed, exec_all}
+use Rattle.wy_vc_spec.specs.Programs.{enter, body_of, body_conditions}
+use Rattle.wy_sound_statements.specs.wy_sound_walks.expressions.Names.{Known, Stand}
+use Rattle.wy_sound_statements.specs.wy_sound_walks.expressions.Truth.{AreTrueBy}
+use Rattle.wy_sound_statements.specs.wy_sound_walks.expressions.Types.{is_in}
+use Rattle.wy_sound_statements.specs.wy_sound_walks.expressions.Written.{IsWritten}
+use Rattle.wy_sound_statements.specs.wy_sound_walks.expressions.Laws.{NamesTold, AreValTerms}
+use Rattle.wy_sound_statements.specs.wy_sound_walks.clauses.Clauses.{AreSafe, AllPass}
+use Rattle.wy_sound_statements.specs.wy_sound_walks.joins.Points.{IsPoint}
+use Rattle.wy_sound_statements.specs.calls.CallLaws.{Checks, ClausesFit, KeepsContract, with_params, nothing_seen}
+use Rattle.wy_sound_statements.specs.wy_sound_kinds.Bounded.{IsBounded}
+use Rattle.wy_sound_statements.specs.wy_sound_kinds.Kinds.{HasValues}
 use Rattle.wy_sound_statements.specs.StatementSuits.{BlockSuits}
 use Rattle.wy_sound_statements.specs.Ends.{AreDeclared, AreHandled, GiveValues, code_kinds}
 use Rattle.wy_sound_programs.specs.Bodies.{NoneLeft, EndsBefore}

@@ -12,16 +12,16 @@ use Rattle.wy_sem.specs.TypeTests.{Test}
 use Rattle.wy_sem.specs.Statements as run
 use Rattle.wy_sem.specs.Statements.{Exit, Broke, Continued}
 use Rattle.wy_sem.specs.Evaluation.{entry_of, frame_of, result_of}
-use Rattle.wy_conditions.specs.Numbered.{Node}
-use Rattle.wy_conditions.specs.Variables.{Vars}
-use Rattle.wy_conditions.specs.Walks.{Program}
-use Rattle.wy_conditions.specs.Spots.{Spot}
-use Rattle.wy_conditions.specs.Statements.{exec_all}
-use Rattle.wy_conditions.specs.Programs.{body_of, end_of}
-use Rattle.wy_sound_expressions.specs.Truth.{AreTrueBy, Good}
-use Rattle.wy_sound_expressions.specs.Laws.{AreValTerms}
-use Rattle.wy_sound_joins.specs.Points.{IsPoint, At}
-use Rattle.wy_sound_calls.specs.CallLaws.{Leaves}
+use Rattle.wy_vc_spec.specs.Numbered.{Node}
+use Rattle.wy_vc_spec.specs.Variables.{Vars}
+use Rattle.wy_vc_spec.specs.Walks.{Program}
+use Rattle.wy_vc_spec.specs.Spots.{Spot}
+use Rattle.wy_vc_spec.specs.Statements.{exec_all}
+use Rattle.wy_vc_spec.specs.Programs.{body_of, end_of}
+use Rattle.wy_sound_statements.specs.wy_sound_walks.expressions.Truth.{AreTrueBy, Good}
+use Rattle.wy_sound_statements.specs.wy_sound_walks.expressions.Laws.{AreValTerms}
+use Rattle.wy_sound_statements.specs.wy_sound_walks.joins.Points.{IsPoint, At}
+use Rattle.wy_sound_statements.specs.calls.CallLaws.{Leaves}
 use Rattle.wy_sound_statements.specs.StatementSuits.{BlockSuits}
 use Rattle.wy_sound_statements.specs.Ends.{AreDeclared, Rests, AreHandled, GiveValues, code_kinds}
 

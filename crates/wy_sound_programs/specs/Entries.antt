@@ -6,26 +6,26 @@ use Rattle.wy_core.specs.CoreTree as tree
 use Rattle.wy_core.specs.CoreTree.{Param, Routine}
 use Rattle.wy_types.specs.Names.{Declared, Up}
 use Rattle.wy_types.specs.Recursion.{RecurThroughParts}
-use Rattle.wy_environment.specs.Variables.{Environment, nothing_known}
-use Rattle.wy_typing.specs.Outcomes.{Gives}
-use Rattle.wy_typing.specs.Contexts.{Program}
-use Rattle.wy_typing.specs.Programs.{WithParams, entry}
+use Rattle.wy_sound_statements.specs.wy_flow_spec.environment.Variables.{Environment, nothing_known}
+use Rattle.wy_sound_statements.specs.wy_flow_spec.typing.Outcomes.{Gives}
+use Rattle.wy_sound_statements.specs.wy_flow_spec.typing.Contexts.{Program}
+use Rattle.wy_sound_statements.specs.wy_flow_spec.typing.Programs.{WithParams, entry}
 use Rattle.wy_sem.specs.Meter.{Meter, Done}
 use Rattle.wy_sem.specs.Expressions as sem
 use Rattle.wy_sem.specs.Expressions.{Store}
 use Rattle.wy_sem.specs.Statements as run
 use Rattle.wy_sem.specs.Statements.{Exit, Frame}
 use Rattle.wy_sem.specs.Evaluation.{types_of, entry_of}
-use Rattle.wy_formed.specs.Offers.{Offers}
-use Rattle.wy_formed.specs.Bound as bound
-use Rattle.wy_formed.specs.Bound.{Around, BoundStmts}
-use Rattle.wy_conditions.specs.Numbered.{Node, numbered_block}
-use Rattle.wy_conditions.specs.Values.{Setting}
-use Rattle.wy_conditions.specs.Spots.{Spot, is_set, mark}
-use Rattle.wy_conditions.specs.Statements.{Body}
-use Rattle.wy_conditions.specs.Programs.{enter}
-use Rattle.wy_sound_expressions.specs.Types.{is_in}
-use Rattle.wy_sound_kinds.specs.Bounded.{IsBounded}
+use Rattle.wy_core.specs.formed.Offers.{Offers}
+use Rattle.wy_core.specs.formed.Bound as bound
+use Rattle.wy_core.specs.formed.Bound.{Around, BoundStmts}
+use Rattle.wy_vc_spec.specs.Numbered.{Node, numbered_block}
+use Rattle.wy_vc_spec.specs.Values.{Setting}
+use Rattle.wy_vc_spec.specs.Spots.{Spot, is_set, mark}
+use Rattle.wy_vc_spec.specs.Statements.{Body}
+use Rattle.wy_vc_spec.specs.Programs.{enter}
+use Rattle.wy_sound_statements.specs.wy_sound_walks.expressions.Types.{is_in}
+use Rattle.wy_sound_statements.specs.wy_sound_kinds.Bounded.{IsBounded}
 use Rattle.wy_sound_programs.specs.Bodies.{NoneLeft}
 use Rattle.wy_sound_programs.specs.Once.{routine_scope, ParamsScoped}
 use Rattle.wy_sound_programs.specs.Typed.{Stands, Holds, nothing_kept}

@@ -2,13 +2,13 @@
 use Rattle.std.specs.Prelude.{◌≡◌, ℕ, Bool, List, true, false}
 use Rattle.wy_core.specs.Types.{Ty}
 use Rattle.wy_core.specs.CoreTree.{Expr, Stmts}
-use Rattle.wy_formed.specs.Offers.{Offers, IsCall}
-use Rattle.wy_formed.specs.Bound.{Scope, Around, BoundTy, BoundClauses, BoundStmts}
-use Rattle.wy_formed.specs.Calls.{Nothing, MayCall, CallsClauses, CallsStmts}
-use Rattle.wy_formed.specs.Literals.{IntsClauses, IntsStmts}
-use Rattle.wy_formed.specs.Sizes.{IsSmall}
-use Rattle.wy_formed.specs.Wholes.{IsQuiet, EachClause, EachWholeIn}
-use Rattle.wy_sound_fits.specs.Fit.{ClausesReady}
+use Rattle.wy_core.specs.formed.Offers.{Offers, IsCall}
+use Rattle.wy_core.specs.formed.Bound.{Scope, Around, BoundTy, BoundClauses, BoundStmts}
+use Rattle.wy_core.specs.formed.Calls.{Nothing, MayCall, CallsClauses, CallsStmts}
+use Rattle.wy_core.specs.formed.Literals.{IntsClauses, IntsStmts}
+use Rattle.wy_core.specs.formed.Sizes.{IsSmall}
+use Rattle.wy_core.specs.formed.Wholes.{IsQuiet, EachClause, EachWholeIn}
+use Rattle.wy_sound_statements.specs.wy_sound_kinds.fits.Fit.{ClausesReady}
 use Rattle.wy_sound_programs.specs.Along.{Allowed}
 use Rattle.wy_sound_programs.specs.Made.{all_marked, AllMade}
 

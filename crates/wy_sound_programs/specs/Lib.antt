@@ -16,3 +16,11 @@ pub mod FormedBodies
 pub mod Entries
 -- the point where a body begins, and contracts that are kept
 pub mod Begun
+-- passed on to the crates above
+pub use Rattle.wy_sem.specs as wy_sem
+pub use Rattle.wy_sound_statements.specs.wy_sound_kinds as wy_sound_kinds
+pub use Rattle.wy_sound_statements.specs as wy_sound_statements
+pub use Rattle.wy_sound_statements.specs.wy_sound_terms as wy_sound_terms
+pub use Rattle.wy_term.specs as wy_term
+pub use Rattle.wy_types.specs as wy_types
+pub use Rattle.wy_vc_spec.specs as wy_vc_spec

@@ -1,8 +1,8 @@
 -- Blocks whose expressions are as a formed program has them.
 use Rattle.std.specs.Prelude.{◌≡◌, ℕ, Bool, true, false, List, [], ◌∷◌, Some, None}
 use Rattle.wy_core.specs.CoreTree.{Expr, Step, IndexStep, FieldStep, Stmt, DeclareStmt, AssignStmt, CallStmt, ReturnStmt, AssertStmt, BreakStmt, ContinueStmt, SkipStmt, FailStmt, IfStmt, WhileStmt, Stmts, NoStmts, MoreStmts}
-use Rattle.wy_sound_kinds.specs.Ready.{count_of, Ready, AllReady}
-use Rattle.wy_sound_fits.specs.Fit.{ClausesReady}
+use Rattle.wy_sound_statements.specs.wy_sound_kinds.Ready.{count_of, Ready, AllReady}
+use Rattle.wy_sound_statements.specs.wy_sound_kinds.fits.Fit.{ClausesReady}
 use Rattle.wy_sound_programs.specs.Along.{Allowed}
 
 -- every variable is marked

@@ -2,12 +2,12 @@
 use Rattle.std.specs.Prelude.{◌≡◌, ℕ, ◌<◌, List, [], ◌∷◌, length, Option, None, is_some}
 use Rattle.wy_core.specs.Types.{Ty}
 use Rattle.wy_core.specs.CoreTree.{Param, Routine, Stmt, DeclareStmt, AssignStmt, CallStmt, ReturnStmt, AssertStmt, BreakStmt, ContinueStmt, SkipStmt, FailStmt, IfStmt, WhileStmt, Stmts, NoStmts, MoreStmts}
-use Rattle.wy_environment.specs.Slots.{slot_at}
-use Rattle.wy_typing.specs.Programs.{declared_params}
+use Rattle.wy_sound_statements.specs.wy_flow_spec.environment.Slots.{slot_at}
+use Rattle.wy_sound_statements.specs.wy_flow_spec.typing.Programs.{declared_params}
 use Rattle.wy_sem.specs.Statements.{type_at}
 use Rattle.wy_sem.specs.Evaluation.{types_of}
-use Rattle.wy_formed.specs.Offers.{Offers}
-use Rattle.wy_formed.specs.Bound.{BoundRoutine}
+use Rattle.wy_core.specs.formed.Offers.{Offers}
+use Rattle.wy_core.specs.formed.Bound.{BoundRoutine}
 use Rattle.wy_sound_programs.specs.Scopes.{Scope, declares, declares_in, AllScoped}
 
 abbrev mutual

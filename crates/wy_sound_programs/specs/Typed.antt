@@ -5,26 +5,26 @@ use Rattle.wy_core.specs.Types.{Ty}
 use Rattle.wy_core.specs.CoreTree as tree
 use Rattle.wy_core.specs.CoreTree.{Stmts}
 use Rattle.wy_types.specs.Names.{Declared, Up}
-use Rattle.wy_environment.specs.Slots.{slot_at}
-use Rattle.wy_environment.specs.Variables.{Environment}
-use Rattle.wy_typing.specs.Outcomes.{Gives}
-use Rattle.wy_typing.specs.Contexts.{Program}
-use Rattle.wy_typing.specs.States.{State}
-use Rattle.wy_typing.specs.Programs.{result_type}
-use Rattle.wy_typing.specs.Statements.{TypedBlock}
+use Rattle.wy_sound_statements.specs.wy_flow_spec.environment.Slots.{slot_at}
+use Rattle.wy_sound_statements.specs.wy_flow_spec.environment.Variables.{Environment}
+use Rattle.wy_sound_statements.specs.wy_flow_spec.typing.Outcomes.{Gives}
+use Rattle.wy_sound_statements.specs.wy_flow_spec.typing.Contexts.{Program}
+use Rattle.wy_sound_statements.specs.wy_flow_spec.typing.States.{State}
+use Rattle.wy_sound_statements.specs.wy_flow_spec.typing.Programs.{result_type}
+use Rattle.wy_sound_statements.specs.wy_flow_spec.typing.Statements.{TypedBlock}
 use Rattle.wy_sem.specs.Expressions as sem
 use Rattle.wy_sem.specs.TypeTests.{Test, is_constrained}
 use Rattle.wy_sem.specs.Statements.{type_at}
-use Rattle.wy_conditions.specs.Numbered.{Node, numbered_block}
-use Rattle.wy_conditions.specs.Spots.{Spot, is_set}
-use Rattle.wy_conditions.specs.Statements.{Body}
-use Rattle.wy_sound_expressions.specs.Types.{is_in}
-use Rattle.wy_sound_expressions.specs.Laws.{AreValTerms}
-use Rattle.wy_sound_joins.specs.Points.{IsPoint}
-use Rattle.wy_sound_calls.specs.CallLaws.{Checks}
-use Rattle.wy_sound_kinds.specs.Bounded.{IsBounded}
-use Rattle.wy_sound_kinds.specs.Kinds.{HasValues, HasTypes, AreFor, Rests}
-use Rattle.wy_sound_suits.specs.Laws.{Begins, Asks, TellsNumbers}
+use Rattle.wy_vc_spec.specs.Numbered.{Node, numbered_block}
+use Rattle.wy_vc_spec.specs.Spots.{Spot, is_set}
+use Rattle.wy_vc_spec.specs.Statements.{Body}
+use Rattle.wy_sound_statements.specs.wy_sound_walks.expressions.Types.{is_in}
+use Rattle.wy_sound_statements.specs.wy_sound_walks.expressions.Laws.{AreValTerms}
+use Rattle.wy_sound_statements.specs.wy_sound_walks.joins.Points.{IsPoint}
+use Rattle.wy_sound_statements.specs.calls.CallLaws.{Checks}
+use Rattle.wy_sound_statements.specs.wy_sound_kinds.Bounded.{IsBounded}
+use Rattle.wy_sound_statements.specs.wy_sound_kinds.Kinds.{HasValues, HasTypes, AreFor, Rests}
+use Rattle.wy_sound_statements.specs.wy_sound_kinds.suits.Laws.{Begins, Asks, TellsNumbers}
 use Rattle.wy_sound_statements.specs.StatementSuits.{BlockSuits}
 use Rattle.wy_sound_statements.specs.Ends.{AreDeclared, frame_at, code_kinds}
 use Rattle.wy_sound_programs.specs.Scopes.{Scope, AllScoped}

@@ -6,45 +6,45 @@ use Rattle.wy_core.specs.CoreTree.{Expr, Exprs}
 use Rattle.wy_term.specs.Term.{Term}
 use Rattle.wy_term.specs.Sorts.{val_sort}
 use Rattle.wy_term.specs.Meaning.{Names}
-use Rattle.wy_sem.specs.Meter.{Meter, Done}
-use Rattle.wy_sem.specs.Operations.{as_truth}
-use Rattle.wy_sem.specs.Expressions as sem
-use Rattle.wy_sem.specs.Expressions.{Store, put}
-use Rattle.wy_sem.specs.TypeTests.{Test}
-use Rattle.wy_sem.specs.Statements as run
-use Rattle.wy_sem.specs.Statements.{Exit, Went, Frame, type_at}
-use Rattle.wy_conditions.specs.Numbered.{Node}
-use Rattle.wy_conditions.specs.Variables.{Vars}
-use Rattle.wy_conditions.specs.Values.{Setting, named_in}
-use Rattle.wy_conditions.specs.Owed.{Owed}
-use Rattle.wy_conditions.specs.Clauses.{in_type, owe_member}
-use Rattle.wy_conditions.specs.Calls.{Walked, call_walk}
-use Rattle.wy_conditions.specs.Walks.{WalkedAll, walk_all}
-use Rattle.wy_conditions.specs.Spots.{Spot, is_set}
-use Rattle.wy_conditions.specs.Statements.{Body, words, expr as walked_expr, given}
-use Rattle.wy_formed_conditions.proofs.MakingLemmas.{AllOf}
-use Rattle.wy_formed_conditions.proofs.ValueLemmas.{AreData, holds_sorted, named_sorted}
-use Rattle.wy_sound_terms.specs.Kinds.{IsTruth}
-use Rattle.wy_sound_expressions.specs.Names.{Agree, Known, AllMean, Stand}
-use Rattle.wy_sound_expressions.specs.Truth.{AreTrueBy, Good}
-use Rattle.wy_sound_expressions.specs.Types.{is_in}
-use Rattle.wy_sound_expressions.specs.Written.{IsWritten}
-use Rattle.wy_sound_expressions.specs.Suits.{Each, Suits, AllSuit}
-use Rattle.wy_sound_expressions.specs.Sound.{Ok}
-use Rattle.wy_sound_expressions.specs.Laws.{NamesTold}
-use Rattle.wy_sound_expressions.proofs.NameLemmas.{agree_trans, right_later, stand_later}
-use Rattle.wy_sound_expressions.proofs.GoodLemmas.{good_map, good_bind}
-use Rattle.wy_sound_expressions.proofs.ValueGrows.{named_grows}
-use Rattle.wy_sound_expressions.proofs.CallGrows.{in_type_grows, call_grows, call_sorted}
-use Rattle.wy_sound_expressions.proofs.GenericWalks.{walk_is, all_is}
-use Rattle.wy_sound_expressions.proofs.ListLemmas.{OkAll, OkResult}
-use Rattle.wy_sound_expressions.proofs.ExpressionLemmas.{expr, exprs}
-use Rattle.wy_sound_expressions.proofs.LawLemmas.{tells_by}
-use Rattle.wy_sound_joins.specs.Points.{At}
-use Rattle.wy_sound_calls.specs.CallLaws.{Returned}
-use Rattle.wy_sound_calls.proofs.ArgumentLemmas.{given_right}
-use Rattle.wy_sound_steps.specs.Steps.{Behind, IsIn}
-use Rattle.wy_sound_steps.proofs.StepLemmas.{values_come_in}
+use Rattle.wy_sound_kinds.specs.wy_sem.Meter.{Meter, Done}
+use Rattle.wy_sound_kinds.specs.wy_sem.Operations.{as_truth}
+use Rattle.wy_sound_kinds.specs.wy_sem.Expressions as sem
+use Rattle.wy_sound_kinds.specs.wy_sem.Expressions.{Store, put}
+use Rattle.wy_sound_kinds.specs.wy_sem.TypeTests.{Test}
+use Rattle.wy_sound_kinds.specs.wy_sem.Statements as run
+use Rattle.wy_sound_kinds.specs.wy_sem.Statements.{Exit, Went, Frame, type_at}
+use Rattle.wy_sound_kinds.specs.wy_vc_spec.Numbered.{Node}
+use Rattle.wy_sound_kinds.specs.wy_vc_spec.Variables.{Vars}
+use Rattle.wy_sound_kinds.specs.wy_vc_spec.Values.{Setting, named_in}
+use Rattle.wy_sound_kinds.specs.wy_vc_spec.Owed.{Owed}
+use Rattle.wy_sound_kinds.specs.wy_vc_spec.Clauses.{in_type, owe_member}
+use Rattle.wy_sound_kinds.specs.wy_vc_spec.Calls.{Walked, call_walk}
+use Rattle.wy_sound_kinds.specs.wy_vc_spec.Walks.{WalkedAll, walk_all}
+use Rattle.wy_sound_kinds.specs.wy_vc_spec.Spots.{Spot, is_set}
+use Rattle.wy_sound_kinds.specs.wy_vc_spec.Statements.{Body, words, expr as walked_expr, given}
+use Rattle.wy_sound_kinds.proofs.wy_sound_terms_proofs.formed_lemmas.MakingLemmas.{AllOf}
+use Rattle.wy_sound_kinds.proofs.wy_sound_terms_proofs.formed_lemmas.ValueLemmas.{AreData, holds_sorted, named_sorted}
+use Rattle.wy_sound_kinds.specs.wy_sound_terms.operations.Kinds.{IsTruth}
+use Rattle.wy_sound_kinds.specs.wy_sound_walks.expressions.Names.{Agree, Known, AllMean, Stand}
+use Rattle.wy_sound_kinds.specs.wy_sound_walks.expressions.Truth.{AreTrueBy, Good}
+use Rattle.wy_sound_kinds.specs.wy_sound_walks.expressions.Types.{is_in}
+use Rattle.wy_sound_kinds.specs.wy_sound_walks.expressions.Written.{IsWritten}
+use Rattle.wy_sound_kinds.specs.wy_sound_walks.expressions.Suits.{Each, Suits, AllSuit}
+use Rattle.wy_sound_kinds.specs.wy_sound_walks.expressions.Sound.{Ok}
+use Rattle.wy_sound_kinds.specs.wy_sound_walks.expressions.Laws.{NamesTold}
+use Rattle.wy_sound_kinds.proofs.wy_sound_walks_proofs.expressions_lemmas.NameLemmas.{agree_trans, right_later, stand_later}
+use Rattle.wy_sound_kinds.proofs.wy_sound_walks_proofs.expressions_lemmas.GoodLemmas.{good_map, good_bind}
+use Rattle.wy_sound_kinds.proofs.wy_sound_walks_proofs.expressions_lemmas.ValueGrows.{named_grows}
+use Rattle.wy_sound_kinds.proofs.wy_sound_walks_proofs.expressions_lemmas.CallGrows.{in_type_grows, call_grows, call_sorted}
+use Rattle.wy_sound_kinds.proofs.wy_sound_walks_proofs.expressions_lemmas.GenericWalks.{walk_is, all_is}
+use Rattle.wy_sound_kinds.proofs.wy_sound_walks_proofs.expressions_lemmas.ListLemmas.{OkAll, OkResult}
+use Rattle.wy_sound_kinds.proofs.wy_sound_walks_proofs.expressions_lemmas.ExpressionLemmas.{expr, exprs}
+use Rattle.wy_sound_kinds.proofs.wy_sound_walks_proofs.expressions_lemmas.LawLemmas.{tells_by}
+use Rattle.wy_sound_kinds.specs.wy_sound_walks.joins.Points.{At}
+use Rattle.wy_sound_statements.specs.calls.CallLaws.{Returned}
+use Rattle.wy_sound_statements.proofs.calls_lemmas.ArgumentLemmas.{given_right}
+use Rattle.wy_sound_statements.specs.steps.Steps.{Behind, IsIn}
+use Rattle.wy_sound_statements.proofs.steps_lemmas.StepLemmas.{values_come_in}
 use Rattle.wy_sound_statements.specs.StatementSuits.{IsFree}
 use Rattle.wy_sound_statements.specs.Ends.{AreDeclared, frame_at, Exits, Rests, AreHandled, GiveValues, code_kinds}
 use Rattle.wy_sound_statements.proofs.PlaceLemmas.{end_back, are_values, good_both}

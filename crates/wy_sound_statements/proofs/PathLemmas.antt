@@ -1,5 +1,6 @@
 -- The steps of a path follow their walk.
 use Rattle.std.proofs.Common.{◌≡◌, ℕ, ◌≤◌, List, [], ◌∷◌, ◌++◌, Bool, true, false, ◌&&◌, Option, ℤ, pos, negsuc, int_le, int_lt, refl, sym, ap, ◌∙◌, subst}
+use Rattle.wy_lemmas.proofs.Choices.{true_false as not_both}
 use Rattle.wy_value.specs.Datum.{Datum, Null, Truth, Whole, Array, Record, Data}
 use Rattle.wy_value.specs.Values.{length_of}
 use Rattle.wy_core.specs.CoreTree.{Step, IndexStep, FieldStep}
@@ -7,34 +8,34 @@ use Rattle.wy_term.specs.declared.cond.CondKind.TheVariants as kind
 use Rattle.wy_term.specs.Term.{Term}
 use Rattle.wy_term.specs.Data as shapes
 use Rattle.wy_term.specs.Meaning.{Names}
-use Rattle.wy_sem.specs.Meter.{Meter, Done, Run, ◌>>=◌, check}
-use Rattle.wy_sem.specs.Operations.{nat_of, item_at, find, is_index, as_fields, needed, indexed, Slot, ItemSlot, FieldSlot}
-use Rattle.wy_sem.specs.Expressions as sem
-use Rattle.wy_sem.specs.Expressions.{Store}
-use Rattle.wy_sem.specs.Statements as run
-use Rattle.wy_conditions.specs.Making.{field}
-use Rattle.wy_conditions.specs.Numbered.{Node}
-use Rattle.wy_conditions.specs.Variables.{Vars}
-use Rattle.wy_conditions.specs.Values.{named_in}
-use Rattle.wy_conditions.specs.Owed.{assume_all, owe}
-use Rattle.wy_conditions.specs.Operations as op
-use Rattle.wy_conditions.specs.Walks.{index_goals}
-use Rattle.wy_conditions.specs.Statements.{Body, expr, Part, ElementOf, FieldOf, along}
-use Rattle.wy_formed_conditions.proofs.ValueLemmas.{AreData}
-use Rattle.wy_sound_terms.specs.Kinds.{IsWhole, IsArray}
-use Rattle.wy_sound_terms.specs.Updates.{Leads}
-use Rattle.wy_sound_terms.proofs.DataLemmas.{field_is}
-use Rattle.wy_sound_terms.proofs.FollowLemmas.{all_true, true_all, not_both}
-use Rattle.wy_sound_terms.proofs.MadeLemmas.{all, field_means}
-use Rattle.wy_sound_terms.proofs.OtherLemmas.{index_is, element_means}
-use Rattle.wy_sound_expressions.specs.Names.{Agree, Known, Means, Stand}
-use Rattle.wy_sound_expressions.specs.Truth.{AreTrueBy, Good}
-use Rattle.wy_sound_expressions.specs.Sound.{Ok}
-use Rattle.wy_sound_expressions.specs.Laws.{NamesTold}
-use Rattle.wy_sound_expressions.proofs.NameLemmas.{agree_refl, agree_trans, means_later, stand_later, right_later}
-use Rattle.wy_sound_expressions.proofs.GoodLemmas.{true_left, true_right, good_bind}
-use Rattle.wy_sound_expressions.proofs.AssumeLemmas.{all_assumed_true, owed_true}
-use Rattle.wy_sound_points.proofs.StayLemmas.{expr_up, along_up}
+use Rattle.wy_sound_kinds.specs.wy_sem.Meter.{Meter, Done, Run, ◌>>=◌, check}
+use Rattle.wy_sound_kinds.specs.wy_sem.Operations.{nat_of, item_at, find, is_index, as_fields, needed, indexed, Slot, ItemSlot, FieldSlot}
+use Rattle.wy_sound_kinds.specs.wy_sem.Expressions as sem
+use Rattle.wy_sound_kinds.specs.wy_sem.Expressions.{Store}
+use Rattle.wy_sound_kinds.specs.wy_sem.Statements as run
+use Rattle.wy_sound_kinds.specs.wy_vc_spec.Making.{field}
+use Rattle.wy_sound_kinds.specs.wy_vc_spec.Numbered.{Node}
+use Rattle.wy_sound_kinds.specs.wy_vc_spec.Variables.{Vars}
+use Rattle.wy_sound_kinds.specs.wy_vc_spec.Values.{named_in}
+use Rattle.wy_sound_kinds.specs.wy_vc_spec.Owed.{assume_all, owe}
+use Rattle.wy_sound_kinds.specs.wy_vc_spec.Operations as op
+use Rattle.wy_sound_kinds.specs.wy_vc_spec.Walks.{index_goals}
+use Rattle.wy_sound_kinds.specs.wy_vc_spec.Statements.{Body, expr, Part, ElementOf, FieldOf, along}
+use Rattle.wy_sound_kinds.proofs.wy_sound_terms_proofs.formed_lemmas.ValueLemmas.{AreData}
+use Rattle.wy_sound_kinds.specs.wy_sound_terms.operations.Kinds.{IsWhole, IsArray}
+use Rattle.wy_sound_kinds.specs.wy_sound_terms.operations.Updates.{Leads}
+use Rattle.wy_sound_kinds.proofs.wy_sound_terms_proofs.operations_lemmas.DataLemmas.{field_is}
+use Rattle.wy_sound_kinds.proofs.wy_sound_terms_proofs.operations_lemmas.FollowLemmas.{all_true, true_all}
+use Rattle.wy_sound_kinds.proofs.wy_sound_terms_proofs.operations_lemmas.MadeLemmas.{all, field_means}
+use Rattle.wy_sound_kinds.proofs.wy_sound_terms_proofs.operations_lemmas.OtherLemmas.{index_is, element_means}
+use Rattle.wy_sound_kinds.specs.wy_sound_walks.expressions.Names.{Agree, Known, Means, Stand}
+use Rattle.wy_sound_kinds.specs.wy_sound_walks.expressions.Truth.{AreTrueBy, Good}
+use Rattle.wy_sound_kinds.specs.wy_sound_walks.expressions.Sound.{Ok}
+use Rattle.wy_sound_kinds.specs.wy_sound_walks.expressions.Laws.{NamesTold}
+use Rattle.wy_sound_kinds.proofs.wy_sound_walks_proofs.expressions_lemmas.NameLemmas.{agree_refl, agree_trans, means_later, stand_later, right_later}
+use Rattle.wy_sound_kinds.proofs.wy_sound_walks_proofs.expressions_lemmas.GoodLemmas.{true_left, true_right, good_bind}
+use Rattle.wy_sound_kinds.proofs.wy_sound_walks_proofs.expressions_lemmas.AssumeLemmas.{all_assumed_true, owed_true}
+use Rattle.wy_sound_kinds.proofs.wy_sound_walks_proofs.points_lemmas.StayLemmas.{expr_up, along_up}
 use Rattle.wy_sound_statements.specs.StatementSuits.{PathSuits}
 use Rattle.wy_sound_statements.specs.Ends.{AreHandled, GiveValues, code_kinds}
 use Rattle.wy_sound_statements.proofs.CodeLemmas.{code_right}

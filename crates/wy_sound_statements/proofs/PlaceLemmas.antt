@@ -3,21 +3,21 @@ use Rattle.std.proofs.Common.{◌≡◌, inl, inr, ℕ, ◌≤◌, List, [], ◌
 use Rattle.wy_term.specs.Term.{Term}
 use Rattle.wy_term.specs.Sorts.{val_sort}
 use Rattle.wy_term.specs.Meaning.{Names}
-use Rattle.wy_sem.specs.Meter.{Outcome, Done, Fault, More, Spent}
-use Rattle.wy_sem.specs.Expressions.{Store}
-use Rattle.wy_conditions.specs.Variables.{Vars}
-use Rattle.wy_conditions.specs.Spots.{Spot, is_set, as_list}
-use Rattle.wy_formed_conditions.proofs.MakingLemmas.{AllOf, none, more}
-use Rattle.wy_formed_conditions.proofs.ValueLemmas.{IsDatum, datum, AreData, next}
-use Rattle.wy_sound_expressions.specs.Names.{Agree}
-use Rattle.wy_sound_expressions.specs.Truth.{Good}
-use Rattle.wy_sound_expressions.specs.Laws.{IsValTerm, AreValTerms}
-use Rattle.wy_sound_expressions.proofs.NameLemmas.{agree_refl, agree_trans, known_later, stand_later}
-use Rattle.wy_sound_joins.specs.Points.{At}
-use Rattle.wy_sound_joins.specs.Joins.{IsOne, ArePoints, AtEnd}
-use Rattle.wy_sound_calls.specs.CallLaws.{AreValues}
-use Rattle.wy_sound_depends.specs.Begins.{Begins, AllBegin, EndBegins}
-use Rattle.wy_sound_points.proofs.SetLemmas.{AllPoints, as_point}
+use Rattle.wy_sound_kinds.specs.wy_sem.Meter.{Outcome, Done, Fault, More, Spent}
+use Rattle.wy_sound_kinds.specs.wy_sem.Expressions.{Store}
+use Rattle.wy_sound_kinds.specs.wy_vc_spec.Variables.{Vars}
+use Rattle.wy_sound_kinds.specs.wy_vc_spec.Spots.{Spot, is_set, as_list}
+use Rattle.wy_sound_kinds.proofs.wy_sound_terms_proofs.formed_lemmas.MakingLemmas.{AllOf, more}
+use Rattle.wy_sound_kinds.proofs.wy_sound_terms_proofs.formed_lemmas.ValueLemmas.{IsDatum, datum, AreData, next}
+use Rattle.wy_sound_kinds.specs.wy_sound_walks.expressions.Names.{Agree}
+use Rattle.wy_sound_kinds.specs.wy_sound_walks.expressions.Truth.{Good}
+use Rattle.wy_sound_kinds.specs.wy_sound_walks.expressions.Laws.{IsValTerm, AreValTerms}
+use Rattle.wy_sound_kinds.proofs.wy_sound_walks_proofs.expressions_lemmas.NameLemmas.{agree_refl, agree_trans, known_later, stand_later}
+use Rattle.wy_sound_kinds.specs.wy_sound_walks.joins.Points.{At}
+use Rattle.wy_sound_kinds.specs.wy_sound_walks.joins.Joins.{IsOne, ArePoints, AtEnd}
+use Rattle.wy_sound_statements.specs.calls.CallLaws.{AreValues}
+use Rattle.wy_sound_kinds.specs.wy_sound_walks.depends.Begins.{Begins, AllBegin, EndBegins}
+use Rattle.wy_sound_kinds.proofs.wy_sound_walks_proofs.points_lemmas.SetLemmas.{AllPoints, as_point}
 use Rattle.wy_sound_statements.specs.Ends.{AtSome}
 
 -- ---- points
@@ -98,10 +98,6 @@ val_terms (v ∷ vs) (next d h) = (val_if v d, val_terms vs h)
 pub are_values : (ts : List Term) → AllOf val_sort ts → AreValues ts
 are_values [] h = tt
 are_values (t ∷ ts) (more h r) = (h.has, are_values ts r)
-
-pub all_of_values : (ts : List Term) → AreValues ts → AllOf val_sort ts
-all_of_values [] h = none
-all_of_values (t ∷ ts) h = more (record { has = h.0 }) (all_of_values ts h.1)
 
 -- ---- two things that are known of an evaluation
 

@@ -7,61 +7,61 @@ use Rattle.wy_core.specs.CoreTree.{Expr, Step, Stmt, DeclareStmt, AssignStmt, Ca
 use Rattle.wy_term.specs.declared.cond.CondKind.TheVariants as kind
 use Rattle.wy_term.specs.Term.{Term}
 use Rattle.wy_term.specs.Meaning.{Names}
-use Rattle.wy_sem.specs.Meter.{Meter, Done, Fault, Run, ◌>>=◌, spend, check, choose}
-use Rattle.wy_sem.specs.Operations.{as_truth, needed, Slot, updated}
-use Rattle.wy_sem.specs.Expressions as sem
-use Rattle.wy_sem.specs.Expressions.{Store, slot, put}
-use Rattle.wy_sem.specs.TypeTests.{Test}
-use Rattle.wy_sem.specs.Statements as run
-use Rattle.wy_sem.specs.Statements.{Exit, Went, Broke, Continued, Gave, Frame, type_at}
-use Rattle.wy_sem.specs.Evaluation.{entry_of}
-use Rattle.wy_conditions.specs.Making.{val_name, falsehood, denied, formula}
-use Rattle.wy_conditions.specs.Numbered.{Node}
-use Rattle.wy_conditions.specs.Values.{word_at, variable}
-use Rattle.wy_conditions.specs.Owed.{Owed, assume, owe}
-use Rattle.wy_conditions.specs.Clauses.{Passed, owe_clauses, owe_member}
-use Rattle.wy_conditions.specs.Calls.{Walked, call_walk}
-use Rattle.wy_conditions.specs.Walks.{walk_all}
-use Rattle.wy_conditions.specs.Spots.{Spot, Flow, is_set, as_list, go_on, followed, with_hyps}
-use Rattle.wy_conditions.specs.Joins.{meet}
-use Rattle.wy_conditions.specs.Assigned.{assigns_in}
-use Rattle.wy_conditions.specs.Statements.{Body, words, expr, along, rebuilt, assigned, leave, renew, walk_clauses, keep, where_true, where_false, behind_if, exec, exec_all}
-use Rattle.wy_formed_conditions.proofs.ValueLemmas.{variable_sorted}
-use Rattle.wy_sound_terms.specs.Kinds.{IsTruth}
-use Rattle.wy_sound_terms.proofs.UpdateLemmas.{updates_agree}
-use Rattle.wy_sound_terms.proofs.MadeLemmas.{formula_means, denied_means}
-use Rattle.wy_sound_expressions.specs.Names.{Agree, Known}
-use Rattle.wy_sound_expressions.specs.Truth.{AreTrueBy, Good}
-use Rattle.wy_sound_expressions.specs.Written.{IsWritten}
-use Rattle.wy_sound_expressions.specs.Suits.{Each, Suits}
-use Rattle.wy_sound_expressions.specs.Sound.{Ok}
-use Rattle.wy_sound_expressions.proofs.NameLemmas.{agree_refl, agree_trans, stand_later, right_later}
-use Rattle.wy_sound_expressions.proofs.GoodLemmas.{true_left, true_right, true_after, good_weaken, good_map, good_bind, good_spend}
-use Rattle.wy_sound_expressions.proofs.AssumeLemmas.{assumed_true}
-use Rattle.wy_sound_expressions.proofs.CallGrows.{clauses_grow, call_grows}
-use Rattle.wy_sound_expressions.proofs.LawLemmas.{quiet_right, are_data}
-use Rattle.wy_sound_expressions.proofs.ListLemmas.{OkAll}
-use Rattle.wy_sound_clauses.specs.Clauses.{AllFit, AreSafe, AllPass, AreTrueIfDone}
-use Rattle.wy_sound_clauses.proofs.HoldLemmas.{owed_hold}
-use Rattle.wy_sound_clauses.proofs.WalkedLemmas.{walked_safe, walked_known}
-use Rattle.wy_sound_joins.specs.Points.{At}
-use Rattle.wy_sound_joins.specs.Joins.{AtEnd}
-use Rattle.wy_sound_joins.proofs.JoinLemmas.{joins_sound}
-use Rattle.wy_sound_heads.specs.Heads.{IsTurn}
-use Rattle.wy_sound_heads.proofs.HeadLemmas.{heads_sound}
-use Rattle.wy_sound_calls.specs.CallLaws.{Returned, Leaves}
-use Rattle.wy_sound_steps.specs.Steps.{Ending}
-use Rattle.wy_sound_steps.proofs.StepLemmas.{results_leave}
-use Rattle.wy_sound_depends.specs.Begins.{AllBegin}
-use Rattle.wy_sound_depends.proofs.BeginLemmas.{begins_assumed}
-use Rattle.wy_sound_depends.proofs.BlockLemmas.{blocks_begin}
-use Rattle.wy_sound_depends.proofs.ValueLemmas.{all_more, variable_depends}
-use Rattle.wy_sound_depends.proofs.WalkLemmas.{codes_grow}
-use Rattle.wy_sound_points.proofs.SetLemmas.{Point, PointIf, AllPoints, FlowPoints, point_more, point_if_more, points_more, both_points, list_points, with_point, depend_from}
-use Rattle.wy_sound_points.proofs.MeetLemmas.{meet_points}
-use Rattle.wy_sound_points.proofs.StayLemmas.{Rests as TermRests, RenewedPoint, parts_on, rebuilt_rests, expr_rests, along_rests, along_up, expr_up, walked_up, keep_up, head_renewed, statement_points, block_points}
-use Rattle.wy_sound_frames.specs.Frames.{unsets_in, Keeps}
-use Rattle.wy_sound_frames.proofs.FrameLemmas.{statements_keep}
+use Rattle.wy_sound_kinds.specs.wy_sem.Meter.{Meter, Done, Fault, Run, ◌>>=◌, spend, check, choose}
+use Rattle.wy_sound_kinds.specs.wy_sem.Operations.{as_truth, needed, Slot, updated}
+use Rattle.wy_sound_kinds.specs.wy_sem.Expressions as sem
+use Rattle.wy_sound_kinds.specs.wy_sem.Expressions.{Store, slot, put}
+use Rattle.wy_sound_kinds.specs.wy_sem.TypeTests.{Test}
+use Rattle.wy_sound_kinds.specs.wy_sem.Statements as run
+use Rattle.wy_sound_kinds.specs.wy_sem.Statements.{Exit, Went, Broke, Continued, Gave, Frame, type_at}
+use Rattle.wy_sound_kinds.specs.wy_sem.Evaluation.{entry_of}
+use Rattle.wy_sound_kinds.specs.wy_vc_spec.Making.{val_name, falsehood, denied, formula}
+use Rattle.wy_sound_kinds.specs.wy_vc_spec.Numbered.{Node}
+use Rattle.wy_sound_kinds.specs.wy_vc_spec.Values.{word_at, variable}
+use Rattle.wy_sound_kinds.specs.wy_vc_spec.Owed.{Owed, assume, owe}
+use Rattle.wy_sound_kinds.specs.wy_vc_spec.Clauses.{Passed, owe_clauses, owe_member}
+use Rattle.wy_sound_kinds.specs.wy_vc_spec.Calls.{Walked, call_walk}
+use Rattle.wy_sound_kinds.specs.wy_vc_spec.Walks.{walk_all}
+use Rattle.wy_sound_kinds.specs.wy_vc_spec.Spots.{Spot, Flow, is_set, as_list, go_on, followed, with_hyps}
+use Rattle.wy_sound_kinds.specs.wy_vc_spec.Joins.{meet}
+use Rattle.wy_sound_kinds.specs.wy_vc_spec.Assigned.{assigns_in}
+use Rattle.wy_sound_kinds.specs.wy_vc_spec.Statements.{Body, words, expr, along, rebuilt, assigned, leave, renew, walk_clauses, keep, where_true, where_false, behind_if, exec, exec_all}
+use Rattle.wy_sound_kinds.proofs.wy_sound_terms_proofs.formed_lemmas.ValueLemmas.{variable_sorted}
+use Rattle.wy_sound_kinds.specs.wy_sound_terms.operations.Kinds.{IsTruth}
+use Rattle.wy_sound_kinds.proofs.wy_sound_terms_proofs.operations_lemmas.UpdateLemmas.{updates_agree}
+use Rattle.wy_sound_kinds.proofs.wy_sound_terms_proofs.operations_lemmas.MadeLemmas.{formula_means, denied_means}
+use Rattle.wy_sound_kinds.specs.wy_sound_walks.expressions.Names.{Agree, Known}
+use Rattle.wy_sound_kinds.specs.wy_sound_walks.expressions.Truth.{AreTrueBy, Good}
+use Rattle.wy_sound_kinds.specs.wy_sound_walks.expressions.Written.{IsWritten}
+use Rattle.wy_sound_kinds.specs.wy_sound_walks.expressions.Suits.{Each, Suits}
+use Rattle.wy_sound_kinds.specs.wy_sound_walks.expressions.Sound.{Ok}
+use Rattle.wy_sound_kinds.proofs.wy_sound_walks_proofs.expressions_lemmas.NameLemmas.{agree_refl, agree_trans, stand_later, right_later}
+use Rattle.wy_sound_kinds.proofs.wy_sound_walks_proofs.expressions_lemmas.GoodLemmas.{true_left, true_right, true_after, good_weaken, good_map, good_bind, good_spend}
+use Rattle.wy_sound_kinds.proofs.wy_sound_walks_proofs.expressions_lemmas.AssumeLemmas.{assumed_true}
+use Rattle.wy_sound_kinds.proofs.wy_sound_walks_proofs.expressions_lemmas.CallGrows.{clauses_grow, call_grows}
+use Rattle.wy_sound_kinds.proofs.wy_sound_walks_proofs.expressions_lemmas.LawLemmas.{quiet_right, are_data}
+use Rattle.wy_sound_kinds.proofs.wy_sound_walks_proofs.expressions_lemmas.ListLemmas.{OkAll}
+use Rattle.wy_sound_kinds.specs.wy_sound_walks.clauses.Clauses.{AllFit, AreSafe, AllPass, AreTrueIfDone}
+use Rattle.wy_sound_kinds.proofs.wy_sound_walks_proofs.clauses_lemmas.HoldLemmas.{owed_hold}
+use Rattle.wy_sound_kinds.proofs.wy_sound_walks_proofs.clauses_lemmas.WalkedLemmas.{walked_safe, walked_known}
+use Rattle.wy_sound_kinds.specs.wy_sound_walks.joins.Points.{At}
+use Rattle.wy_sound_kinds.specs.wy_sound_walks.joins.Joins.{AtEnd}
+use Rattle.wy_sound_kinds.proofs.wy_sound_walks_proofs.joins_lemmas.JoinLemmas.{joins_sound}
+use Rattle.wy_sound_kinds.specs.wy_sound_walks.heads.Heads.{IsTurn}
+use Rattle.wy_sound_kinds.proofs.wy_sound_walks_proofs.heads_lemmas.HeadLemmas.{heads_sound}
+use Rattle.wy_sound_statements.specs.calls.CallLaws.{Returned, Leaves}
+use Rattle.wy_sound_statements.specs.steps.Steps.{Ending}
+use Rattle.wy_sound_statements.proofs.steps_lemmas.StepLemmas.{results_leave}
+use Rattle.wy_sound_kinds.specs.wy_sound_walks.depends.Begins.{AllBegin}
+use Rattle.wy_sound_kinds.proofs.wy_sound_walks_proofs.depends_lemmas.BeginLemmas.{begins_assumed}
+use Rattle.wy_sound_kinds.proofs.wy_sound_walks_proofs.depends_lemmas.BlockLemmas.{blocks_begin}
+use Rattle.wy_sound_kinds.proofs.wy_sound_walks_proofs.depends_lemmas.ValueLemmas.{all_more, variable_depends}
+use Rattle.wy_sound_kinds.proofs.wy_sound_walks_proofs.depends_lemmas.WalkLemmas.{codes_grow}
+use Rattle.wy_sound_kinds.proofs.wy_sound_walks_proofs.points_lemmas.SetLemmas.{Point, PointIf, AllPoints, FlowPoints, point_more, point_if_more, points_more, both_points, list_points, with_point, depend_from}
+use Rattle.wy_sound_kinds.proofs.wy_sound_walks_proofs.points_lemmas.MeetLemmas.{meet_points}
+use Rattle.wy_sound_kinds.proofs.wy_sound_walks_proofs.points_lemmas.StayLemmas.{Rests as TermRests, RenewedPoint, parts_on, rebuilt_rests, expr_rests, along_rests, along_up, expr_up, walked_up, keep_up, head_renewed, statement_points, block_points}
+use Rattle.wy_sound_kinds.specs.frames.Frames.{unsets_in, Keeps}
+use Rattle.wy_sound_kinds.proofs.frames_lemmas.FrameLemmas.{statements_keep}
 use Rattle.wy_sound_statements.specs.StatementSuits.{IsFree, PathSuits, UpdateSuits, IsTested, Leads, AtTurns, KeepFits, Behind, StmtSuits, BlockSuits}
 use Rattle.wy_sound_statements.specs.Ends.{AreDeclared, AtSome, frame_at, Exits, Rests, AreHandled, GiveValues, code_kinds, BlocksAreSound}
 use Rattle.wy_sound_statements.proofs.PlaceLemmas.{at_more, some_left, some_right, end_some, are_points, list_begins, both_begin, end_begins_less, all_begin_less, val_terms, are_values}

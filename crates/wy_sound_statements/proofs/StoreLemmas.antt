@@ -6,29 +6,29 @@ use Rattle.wy_core.specs.CoreTree.{Expr}
 use Rattle.wy_term.specs.declared.cond.CondKind.{CondKind}
 use Rattle.wy_term.specs.Term.{Term}
 use Rattle.wy_term.specs.Meaning.{Names}
-use Rattle.wy_sem.specs.Meter.{Meter, Outcome, Done, Fault, More, Spent, Run, ◌>>=◌, check}
-use Rattle.wy_sem.specs.Operations.{as_truth}
-use Rattle.wy_sem.specs.Expressions as sem
-use Rattle.wy_sem.specs.Expressions.{Store, slot, put}
-use Rattle.wy_sem.specs.Statements.{type_at}
-use Rattle.wy_conditions.specs.Variables.{Vars}
-use Rattle.wy_conditions.specs.Values.{Setting, variable, named_in}
-use Rattle.wy_conditions.specs.Owed.{assume_all, owe}
-use Rattle.wy_conditions.specs.Clauses.{goals, owe_clauses}
-use Rattle.wy_conditions.specs.Spots.{Spot, is_set, mark, declare}
-use Rattle.wy_formed_conditions.proofs.ValueLemmas.{AreData}
-use Rattle.wy_sound_terms.proofs.FollowLemmas.{all_true}
-use Rattle.wy_sound_expressions.specs.Names.{Known, Means, Stand}
-use Rattle.wy_sound_expressions.specs.Truth.{AreTrueBy, Good}
-use Rattle.wy_sound_expressions.specs.Types.{is_in}
-use Rattle.wy_sound_expressions.specs.Laws.{NamesTold}
-use Rattle.wy_sound_expressions.proofs.NameLemmas.{agree_refl, agree_less, known_later, means_later, stand_later, right_later, put_at}
-use Rattle.wy_sound_expressions.proofs.GoodLemmas.{true_left, true_right}
-use Rattle.wy_sound_expressions.proofs.AssumeLemmas.{all_assumed_true, owed_true}
-use Rattle.wy_sound_expressions.proofs.CallGrows.{goals_grow}
-use Rattle.wy_sound_clauses.specs.Clauses.{AllFit, IsNoFault, AllPass, AreSafe, AreTrueIfDone}
-use Rattle.wy_sound_clauses.proofs.ClauseLemmas.{goals_at}
-use Rattle.wy_sound_joins.specs.Points.{At}
+use Rattle.wy_sound_kinds.specs.wy_sem.Meter.{Meter, Outcome, Done, Fault, More, Spent, Run, ◌>>=◌, check}
+use Rattle.wy_sound_kinds.specs.wy_sem.Operations.{as_truth}
+use Rattle.wy_sound_kinds.specs.wy_sem.Expressions as sem
+use Rattle.wy_sound_kinds.specs.wy_sem.Expressions.{Store, slot, put}
+use Rattle.wy_sound_kinds.specs.wy_sem.Statements.{type_at}
+use Rattle.wy_sound_kinds.specs.wy_vc_spec.Variables.{Vars}
+use Rattle.wy_sound_kinds.specs.wy_vc_spec.Values.{Setting, variable, named_in}
+use Rattle.wy_sound_kinds.specs.wy_vc_spec.Owed.{assume_all, owe}
+use Rattle.wy_sound_kinds.specs.wy_vc_spec.Clauses.{goals, owe_clauses}
+use Rattle.wy_sound_kinds.specs.wy_vc_spec.Spots.{Spot, is_set, mark, declare}
+use Rattle.wy_sound_kinds.proofs.wy_sound_terms_proofs.formed_lemmas.ValueLemmas.{AreData}
+use Rattle.wy_sound_kinds.proofs.wy_sound_terms_proofs.operations_lemmas.FollowLemmas.{all_true}
+use Rattle.wy_sound_kinds.specs.wy_sound_walks.expressions.Names.{Known, Means, Stand}
+use Rattle.wy_sound_kinds.specs.wy_sound_walks.expressions.Truth.{AreTrueBy, Good}
+use Rattle.wy_sound_kinds.specs.wy_sound_walks.expressions.Types.{is_in}
+use Rattle.wy_sound_kinds.specs.wy_sound_walks.expressions.Laws.{NamesTold}
+use Rattle.wy_sound_kinds.proofs.wy_sound_walks_proofs.expressions_lemmas.NameLemmas.{agree_refl, agree_less, known_later, means_later, stand_later, right_later, put_at}
+use Rattle.wy_sound_kinds.proofs.wy_sound_walks_proofs.expressions_lemmas.GoodLemmas.{true_left, true_right}
+use Rattle.wy_sound_kinds.proofs.wy_sound_walks_proofs.expressions_lemmas.AssumeLemmas.{all_assumed_true, owed_true}
+use Rattle.wy_sound_kinds.proofs.wy_sound_walks_proofs.expressions_lemmas.CallGrows.{goals_grow}
+use Rattle.wy_sound_kinds.specs.wy_sound_walks.clauses.Clauses.{AllFit, IsNoFault, AllPass, AreSafe, AreTrueIfDone}
+use Rattle.wy_sound_kinds.proofs.wy_sound_walks_proofs.clauses_lemmas.ClauseLemmas.{goals_at}
+use Rattle.wy_sound_kinds.specs.wy_sound_walks.joins.Points.{At}
 use Rattle.wy_sound_statements.specs.Ends.{AreDeclared}
 
 none_some : {X : Type 0} (d : Datum) → ◌≡◌ {A = Option Datum} None (Some d) → X

@@ -6,29 +6,29 @@ use Rattle.wy_core.specs.CoreTree as tree
 use Rattle.wy_core.specs.CoreTree.{Expr, Stmts}
 use Rattle.wy_term.specs.Term.{Term}
 use Rattle.wy_term.specs.Meaning.{Names}
-use Rattle.wy_sem.specs.Meter.{Meter, Done}
-use Rattle.wy_sem.specs.Expressions as sem
-use Rattle.wy_sem.specs.Expressions.{Store, slot}
-use Rattle.wy_sem.specs.TypeTests.{Test, set_if}
-use Rattle.wy_sem.specs.Statements as run
-use Rattle.wy_sem.specs.Statements.{Exit, Went, Broke, Continued, Gave, Frame, type_at}
-use Rattle.wy_sem.specs.Evaluation.{entry_of}
-use Rattle.wy_conditions.specs.Numbered.{Node}
-use Rattle.wy_conditions.specs.Values.{named_in}
-use Rattle.wy_conditions.specs.Calls.{call_walk}
-use Rattle.wy_conditions.specs.Spots.{Spot, Flow}
-use Rattle.wy_conditions.specs.Statements.{Body, exec_all}
-use Rattle.wy_sound_expressions.specs.Names.{Known, AllMean, Stand}
-use Rattle.wy_sound_expressions.specs.Truth.{AreTrueBy, Good}
-use Rattle.wy_sound_expressions.specs.Types.{is_in}
-use Rattle.wy_sound_expressions.specs.Written.{IsWritten}
-use Rattle.wy_sound_expressions.specs.Suits.{Kinds}
-use Rattle.wy_sound_expressions.specs.Laws.{NamesTold, AreValTerms}
-use Rattle.wy_sound_clauses.specs.Clauses.{AllFit, AreSafe, AreTrueIfDone}
-use Rattle.wy_sound_joins.specs.Points.{IsPoint, At}
-use Rattle.wy_sound_joins.specs.Joins.{IsOne, AtEnd}
+use Rattle.wy_sound_kinds.specs.wy_sem.Meter.{Meter, Done}
+use Rattle.wy_sound_kinds.specs.wy_sem.Expressions as sem
+use Rattle.wy_sound_kinds.specs.wy_sem.Expressions.{Store, slot}
+use Rattle.wy_sound_kinds.specs.wy_sem.TypeTests.{Test, set_if}
+use Rattle.wy_sound_kinds.specs.wy_sem.Statements as run
+use Rattle.wy_sound_kinds.specs.wy_sem.Statements.{Exit, Went, Broke, Continued, Gave, Frame, type_at}
+use Rattle.wy_sound_kinds.specs.wy_sem.Evaluation.{entry_of}
+use Rattle.wy_sound_kinds.specs.wy_vc_spec.Numbered.{Node}
+use Rattle.wy_sound_kinds.specs.wy_vc_spec.Values.{named_in}
+use Rattle.wy_sound_kinds.specs.wy_vc_spec.Calls.{call_walk}
+use Rattle.wy_sound_kinds.specs.wy_vc_spec.Spots.{Spot, Flow}
+use Rattle.wy_sound_kinds.specs.wy_vc_spec.Statements.{Body, exec_all}
+use Rattle.wy_sound_kinds.specs.wy_sound_walks.expressions.Names.{Known, AllMean, Stand}
+use Rattle.wy_sound_kinds.specs.wy_sound_walks.expressions.Truth.{AreTrueBy, Good}
+use Rattle.wy_sound_kinds.specs.wy_sound_walks.expressions.Types.{is_in}
+use Rattle.wy_sound_kinds.specs.wy_sound_walks.expressions.Written.{IsWritten}
+use Rattle.wy_sound_kinds.specs.wy_sound_walks.expressions.Suits.{Kinds}
+use Rattle.wy_sound_kinds.specs.wy_sound_walks.expressions.Laws.{NamesTold, AreValTerms}
+use Rattle.wy_sound_kinds.specs.wy_sound_walks.clauses.Clauses.{AllFit, AreSafe, AreTrueIfDone}
+use Rattle.wy_sound_kinds.specs.wy_sound_walks.joins.Points.{IsPoint, At}
+use Rattle.wy_sound_kinds.specs.wy_sound_walks.joins.Joins.{IsOne, AtEnd}
 use Rattle.wy_sound_kinds.specs.Bounded.{IsBounded}
-use Rattle.wy_sound_calls.specs.CallLaws.{Checks, Leaves, Returned, AreValues, with_params, nothing_seen, also_if}
+use Rattle.wy_sound_statements.specs.calls.CallLaws.{Checks, Leaves, Returned, AreValues, with_params, nothing_seen, also_if}
 use Rattle.wy_sound_statements.specs.StatementSuits.{BlockSuits}
 
 -- each variable with a value is in its declared type

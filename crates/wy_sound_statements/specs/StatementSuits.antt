@@ -5,22 +5,22 @@ use Rattle.wy_value.specs.Values.{Rise, names_of}
 use Rattle.wy_core.specs.Types.{Ty}
 use Rattle.wy_core.specs.CoreTree as tree
 use Rattle.wy_core.specs.CoreTree.{Expr, Step, IndexStep, FieldStep, Stmt, DeclareStmt, AssignStmt, CallStmt, ReturnStmt, AssertStmt, BreakStmt, ContinueStmt, SkipStmt, FailStmt, IfStmt, WhileStmt, Stmts, NoStmts, MoreStmts}
-use Rattle.wy_sem.specs.Meter.{Meter, Done}
-use Rattle.wy_sem.specs.Operations.{is_index, item_at, find, Slot, updated}
-use Rattle.wy_sem.specs.Expressions as sem
-use Rattle.wy_sem.specs.Expressions.{Store, slot, eval, eval_all}
-use Rattle.wy_sem.specs.Statements as run
-use Rattle.wy_sem.specs.Statements.{Exit, Went, Broke, Continued, Gave, Frame, type_at}
+use Rattle.wy_sound_kinds.specs.wy_sem.Meter.{Meter, Done}
+use Rattle.wy_sound_kinds.specs.wy_sem.Operations.{is_index, item_at, find, Slot, updated}
+use Rattle.wy_sound_kinds.specs.wy_sem.Expressions as sem
+use Rattle.wy_sound_kinds.specs.wy_sem.Expressions.{Store, slot, eval, eval_all}
+use Rattle.wy_sound_kinds.specs.wy_sem.Statements as run
+use Rattle.wy_sound_kinds.specs.wy_sem.Statements.{Exit, Went, Broke, Continued, Gave, Frame, type_at}
 use Rattle.wy_term.specs.declared.cond.CondKind.TheVariants as kind
-use Rattle.wy_conditions.specs.Numbered.{Node}
-use Rattle.wy_conditions.specs.Clauses.{owe_clauses}
-use Rattle.wy_conditions.specs.Spots.{Spot, is_set, with_hyps}
-use Rattle.wy_conditions.specs.Statements.{Body, words, expr, renew, walk_clauses, where_true, where_false, exec, exec_all}
-use Rattle.wy_sound_terms.specs.Kinds.{IsWhole, IsTruth, IsArray}
-use Rattle.wy_sound_expressions.specs.Suits.{Kinds, Each, Suits, AllSuit}
-use Rattle.wy_sound_clauses.specs.Clauses.{Fits, AllFit}
-use Rattle.wy_sound_calls.specs.CallLaws.{ComesAs}
-use Rattle.wy_sound_frames.specs.Frames.{unsets_in}
+use Rattle.wy_sound_kinds.specs.wy_vc_spec.Numbered.{Node}
+use Rattle.wy_sound_kinds.specs.wy_vc_spec.Clauses.{owe_clauses}
+use Rattle.wy_sound_kinds.specs.wy_vc_spec.Spots.{Spot, is_set, with_hyps}
+use Rattle.wy_sound_kinds.specs.wy_vc_spec.Statements.{Body, words, expr, renew, walk_clauses, where_true, where_false, exec, exec_all}
+use Rattle.wy_sound_kinds.specs.wy_sound_terms.operations.Kinds.{IsWhole, IsTruth, IsArray}
+use Rattle.wy_sound_kinds.specs.wy_sound_walks.expressions.Suits.{Kinds, Each, Suits, AllSuit}
+use Rattle.wy_sound_kinds.specs.wy_sound_walks.clauses.Clauses.{Fits, AllFit}
+use Rattle.wy_sound_statements.specs.calls.CallLaws.{ComesAs}
+use Rattle.wy_sound_kinds.specs.frames.Frames.{unsets_in}
 
 -- a value that is given a type: a program may hold it, and where it isn't asked about it is in the type
 abbrev pub IsFree : Body Node → (ℕ → Datum → Bool) → Ty → Datum → Type 0

@@ -9,44 +9,40 @@ use Rattle.wy_sem.specs.Operations.{as_truth}
 use Rattle.wy_sem.specs.Expressions as sem
 use Rattle.wy_sem.specs.Expressions.{node}
 use Rattle.wy_sem.specs.TypeTests.{answer, has_clauses, unset, set_if, all_hold}
-use Rattle.wy_conditions.specs.Numbered.{Node}
-use Rattle.wy_conditions.specs.Making.{val_name, formula}
-use Rattle.wy_conditions.specs.Variables.{Vars, put}
-use Rattle.wy_conditions.specs.Values.{Valued, valued, word_at, value, named_in}
-use Rattle.wy_conditions.specs.Owed.{assume}
-use Rattle.wy_conditions.specs.Clauses.{assume_in_type, in_type}
-use Rattle.wy_conditions.specs.Calls.{Walked, call_walk}
-use Rattle.wy_conditions.specs.Walks.{Program, walk_expr}
-use Rattle.wy_conditions.specs.Statements.{walk_clauses}
-use Rattle.wy_conditions.specs.Programs.{alias_conditions}
-use Rattle.wy_formed_conditions.proofs.MakingLemmas.{val_name_sorted}
-use Rattle.wy_formed_conditions.proofs.ValueLemmas.{AreData, no_data, put_data, named_sorted}
-use Rattle.wy_sound_terms.specs.Kinds.{IsTruth}
-use Rattle.wy_sound_terms.proofs.MadeLemmas.{formula_means}
-use Rattle.wy_sound_expressions.specs.Names.{Known, Means, Stand, also}
-use Rattle.wy_sound_expressions.specs.Types.{is_in}
-use Rattle.wy_sound_expressions.specs.Written.{IsWritten}
-use Rattle.wy_sound_expressions.specs.Truth.{AreTrueBy, Good}
-use Rattle.wy_sound_expressions.specs.Sound.{Ok}
-use Rattle.wy_sound_expressions.specs.Suits.{Answers}
-use Rattle.wy_sound_expressions.specs.Laws.{NamesTold}
-use Rattle.wy_sound_expressions.proofs.NameLemmas.{agree_refl, agree_less, means_later, right_later, stand_later, stand_put}
-use Rattle.wy_sound_expressions.proofs.GoodLemmas.{true_left, true_right}
-use Rattle.wy_sound_expressions.proofs.AssumeLemmas.{assumed_true}
-use Rattle.wy_sound_expressions.proofs.ValueGrows.{named_grows}
-use Rattle.wy_sound_expressions.proofs.CallGrows.{in_type_grows}
-use Rattle.wy_sound_expressions.proofs.GenericWalks.{walk_is}
-use Rattle.wy_sound_expressions.proofs.LawLemmas.{expr_grows, quiet_right, types_told}
-use Rattle.wy_sound_clauses.specs.Quiet.{CallsNothing}
-use Rattle.wy_sound_clauses.proofs.ValueLemmas.{value_is}
-use Rattle.wy_sound_members.specs.Denotations.{is_true, with_value, nothing_had, value_if, denoted, clauses_denote}
-use Rattle.wy_sound_members.specs.Tests.{TestsWritten, ClauseTestsWritten}
+use Rattle.wy_sound_statements.specs.wy_vc_spec.Numbered.{Node}
+use Rattle.wy_sound_statements.specs.wy_vc_spec.Making.{val_name, formula}
+use Rattle.wy_sound_statements.specs.wy_vc_spec.Variables.{Vars, put}
+use Rattle.wy_sound_statements.specs.wy_vc_spec.Values.{Valued, word_at, value, named_in}
+use Rattle.wy_sound_statements.specs.wy_vc_spec.Owed.{assume}
+use Rattle.wy_sound_statements.specs.wy_vc_spec.Clauses.{assume_in_type, in_type}
+use Rattle.wy_sound_statements.specs.wy_vc_spec.Calls.{Walked, call_walk}
+use Rattle.wy_sound_statements.specs.wy_vc_spec.Walks.{Program, walk_expr}
+use Rattle.wy_sound_statements.specs.wy_vc_spec.Statements.{walk_clauses}
+use Rattle.wy_sound_statements.specs.wy_vc_spec.Programs.{alias_conditions}
+use Rattle.wy_vc_laws.proofs.wy_sound_terms_proofs.formed_lemmas.MakingLemmas.{val_name_sorted}
+use Rattle.wy_vc_laws.proofs.wy_sound_terms_proofs.formed_lemmas.ValueLemmas.{AreData, no_data, put_data, named_sorted}
+use Rattle.wy_vc_laws.specs.wy_sound_terms.operations.Kinds.{IsTruth}
+use Rattle.wy_vc_laws.proofs.wy_sound_terms_proofs.operations_lemmas.MadeLemmas.{formula_means}
+use Rattle.wy_sound_statements.specs.wy_sound_walks.expressions.Names.{Known, Means, Stand, also}
+use Rattle.wy_sound_statements.specs.wy_sound_walks.expressions.Types.{is_in}
+use Rattle.wy_sound_statements.specs.wy_sound_walks.expressions.Written.{IsWritten}
+use Rattle.wy_sound_statements.specs.wy_sound_walks.expressions.Truth.{AreTrueBy, Good}
+use Rattle.wy_sound_statements.specs.wy_sound_walks.expressions.Sound.{Ok}
+use Rattle.wy_sound_statements.specs.wy_sound_walks.expressions.Suits.{Answers}
+use Rattle.wy_sound_statements.specs.wy_sound_walks.expressions.Laws.{NamesTold}
+use Rattle.wy_sound_statements.proofs.wy_sound_walks_proofs.expressions_lemmas.NameLemmas.{agree_refl, agree_less, means_later, right_later, stand_later, stand_put}
+use Rattle.wy_sound_statements.proofs.wy_sound_walks_proofs.expressions_lemmas.GoodLemmas.{true_left, true_right}
+use Rattle.wy_sound_statements.proofs.wy_sound_walks_proofs.expressions_lemmas.AssumeLemmas.{assumed_true}
+use Rattle.wy_sound_statements.proofs.wy_sound_walks_proofs.expressions_lemmas.ValueGrows.{named_grows}
+use Rattle.wy_sound_statements.proofs.wy_sound_walks_proofs.expressions_lemmas.CallGrows.{in_type_grows}
+use Rattle.wy_sound_statements.proofs.wy_sound_walks_proofs.expressions_lemmas.GenericWalks.{walk_is}
+use Rattle.wy_sound_statements.proofs.wy_sound_walks_proofs.expressions_lemmas.LawLemmas.{expr_grows, quiet_right, types_told}
+use Rattle.wy_sound_statements.specs.wy_sound_walks.clauses.Quiet.{CallsNothing}
+use Rattle.wy_sound_statements.proofs.wy_sound_walks_proofs.clauses_lemmas.ValueLemmas.{value_is, of_walk}
+use Rattle.wy_sound_types.specs.members.Denotations.{is_true, with_value, nothing_had, value_if, denoted, clauses_denote}
+use Rattle.wy_sound_types.specs.members.Tests.{TestsWritten, ClauseTestsWritten}
 use Rattle.wy_sound_types.specs.Tests.{ClauseMeets, ClausesMeet, no_variable}
-use Rattle.wy_sound_members.proofs.DenotationLemmas.{Have, have_later, put_have, nothing_have, value_told}
-
--- the term of an expression that calls nothing is that of its walk
-abbrev of_walk : Walked → Valued
-of_walk w = valued w.count w.term
+use Rattle.wy_sound_types.proofs.members_lemmas.DenotationLemmas.{Have, have_later, put_have, nothing_have, value_told}
 
 module _ (w : sem.Setting Node) (paid : Bool) (p : Program Node) (members : ℕ → Datum → Bool) (told : NamesTold members (named_in p.setting)) (words : List (List ℕ)) (vars : Vars) (names : Names) (seen : ℕ → Bool) (st : sem.Store) (has : ℕ → Datum) (right : names.is_member ≡ members) (da : AreData vars) where
   abbrev W : Expr Node → List Term → ℕ → Walked

@@ -13,9 +13,10 @@ use Rattle.wy_term.specs.declared.cond.CondKind.{CondKind}
 use Rattle.wy_term.specs.declared.cond.CondKind.TheVariants.{Range, Divisor, Index, Length}
 use Rattle.wy_sem.specs.Meter.{Meter, Outcome, Done, Fault, More, Spent, Run, ◌>>=◌, check, choose}
 use Rattle.wy_sem.specs.Operations.{same_number, is_index, nat_of, item_at, find, agrees, as_number, as_truth, as_items, as_fields, needed, in_range, negated, denied, length_result, numbers, applied, second, operated, item_of, field_of, repeated}
-use Rattle.wy_sem.specs.Expressions.{Store, slot, put, Setting, no_calls, span, each, quantified, data_of, eval, eval_all, eval_fields}
-use Rattle.wy_grounded_conditions.specs.Uses.{NamesAll, TestsAll, AllTestAll, FieldsTestAll}
-use Rattle.wy_sound_clauses.specs.Quiet.{CallsNothing, AllCallNothing, FieldsCallNothing}
+use Rattle.wy_sem.specs.Expressions.{Store, slot, put, Setting, no_calls, span, each, quantified, eval, eval_all, eval_fields}
+use Rattle.wy_vc_laws.specs.grounded.Uses.{NamesAll, TestsAll, AllTestAll, FieldsTestAll}
+use Rattle.wy_sound_statements.specs.wy_sound_walks.clauses.Quiet.{CallsNothing, AllCallNothing, FieldsCallNothing}
+use Rattle.wy_value.specs.Seen.{data_of}
 
 -- the run ended, with an answer or with a fault
 abbrev pub Ends : {X : Type 0} → Outcome X → Type 0

@@ -1,25 +1,23 @@
 -- Where no type with clauses is reached, both readings of a type are the same.
-use Rattle.std.proofs.Common.{◌≡◌, ◌<◌, ◌≤◌, ◌⊎◌, inl, inr, refl, sym, ◌∙◌, ap, ℕ, zero, suc, List, [], ◌∷◌, Bool, true, false, length, arith, is_some, slice_get, subst}
+use Rattle.std.proofs.Common.{◌≡◌, ◌<◌, ◌≤◌, ◌⊎◌, inl, inr, refl, sym, ◌∙◌, ap, ℕ, zero, suc, List, Bool, true, false, length, is_some, slice_get, subst}
 use Rattle.std.specs.Prelude.{Option, Some, None, not, ◌&&◌, ◌||◌}
 use Rattle.std.specs.Str.{bytes_eq}
 use Rattle.std.proofs.lemmas.Bool.{cases_lt, or_cases, or_left, or_right}
+use Rattle.wy_lemmas.proofs.Choices.{or_false, false_true as false_not_true}
+use Rattle.wy_lemmas.proofs.Equations.{both_same}
+use Rattle.wy_sem.proofs.SharedLemmas.{alias_past}
 use Rattle.wy_value.specs.Datum.{Datum, Null, Truth, Whole, Array, Record, Data, no_items, item, Fields, no_fields, field}
 use Rattle.wy_value.specs.Values.{names_of}
 use Rattle.wy_core.specs.Types.{Ty, NullTy, BoolTy, IntTy, AnyTy, VoidTy, RecordTy, ArrayTy, UnionTy, InterTy, NotTy, NamedTy, NormalTy, FieldTys, NoFieldTys, MoreFieldTys}
 use Rattle.wy_core.specs.CoreTree.{Alias}
 use Rattle.wy_types.specs.Shape.{Shape, NullShape, BoolShape, IntShape, ArrayShape, RecordShape}
 use Rattle.wy_types.specs.Names.{Declared, ty_in, declared_in, named_in, is_array, is_record_with, each_in_ty, fields_in_tys, is_in_ty, item_readers, field_readers, Up, Down}
-use Rattle.wy_sem.specs.TypeTests.{has_clauses, no_alias, alias_at, mentions, mentions_fields, is_constrained_name, is_constrained}
-use Rattle.wy_vc_reach.proofs.BoundedLemmas.{Grows, bounded}
-use Rattle.wy_grounded_conditions.specs.Uses.{NamesAll, AllNamesAll}
-use Rattle.wy_sound_members.proofs.OperationLemmas.{both_same}
+use Rattle.wy_sem.specs.TypeTests.{has_clauses, alias_at, mentions, mentions_fields, is_constrained_name, is_constrained}
+use Rattle.wy_graph.proofs.reach_lemmas.BoundedLemmas.{Grows, bounded}
+use Rattle.wy_vc_laws.specs.grounded.Uses.{NamesAll, AllNamesAll}
 use Rattle.wy_sound_types.proofs.ReadingLemmas.{Fits}
 
 -- ---- names in types
-
-or_false : (a b : Bool) → (a || b) ≡ false → (a ≡ false) × (b ≡ false)
-or_false true b h = absurd cc
-or_false false b h = (refl, h)
 
 mutual
   none_mentioned : (p : ℕ → Bool) (t : Ty) → mentions p t ≡ false → NamesAll (λ n. p n ≡ false) t
@@ -86,17 +84,9 @@ mutual
 
 -- ---- types from which none with clauses is reached
 
-false_not_true : {X : Type 0} → false ≡ true → X
-false_not_true e = absurd cc
-
 not_then : (a b : Bool) → (b ≡ true → a ≡ true) → a ≡ false → b ≡ false
 not_then a true f e = sym (f refl) ∙ e
 not_then a false f e = refl
-
-alias_past : {M : Type 0} (types : List (Alias M)) (n : ℕ) → length types ≤ n → alias_at types n ≡ no_alias
-alias_past [] n past = refl
-alias_past (a ∷ types) zero past = absurd (omega (arith, past))
-alias_past (a ∷ types) (suc n) past = alias_past types n (omega (arith, past))
 
 module _ {N : Type 0} (types : List (Alias N)) where
   abbrev held : ℕ → ℕ → Bool

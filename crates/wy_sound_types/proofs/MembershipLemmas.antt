@@ -2,6 +2,9 @@
 use Rattle.std.proofs.Common.{◌≡◌, refl, sym, ◌∙◌, ap, ℕ, zero, suc, ◌+◌, ◌<◌, ◌≤◌, ◌⊎◌, inl, inr, List, [], ◌∷◌, Bool, true, false, length, arith, slice_get, subst}
 use Rattle.std.specs.Prelude.{Option, Some, None, not, ◌&&◌, ◌||◌}
 use Rattle.std.proofs.lemmas.Bool.{cases_lt}
+use Rattle.wy_lemmas.proofs.Choices.{false_true as no_way}
+use Rattle.wy_lemmas.proofs.Equations.{both_same}
+use Rattle.wy_sem.proofs.SharedLemmas.{alias_past}
 use Rattle.wy_value.specs.Datum.{Datum, Null, Truth, Whole, Array, Record, Data, no_items, item, Fields, no_fields, field}
 use Rattle.wy_core.specs.Types.{Ty, NullTy, BoolTy, IntTy, AnyTy, VoidTy, RecordTy, ArrayTy, UnionTy, InterTy, NotTy, NamedTy, NormalTy, FieldTys, NoFieldTys, MoreFieldTys}
 use Rattle.wy_core.specs.CoreTree.{Alias, Decl, AliasDecl, RoutineDecl, Core, aliases_of}
@@ -11,17 +14,16 @@ use Rattle.wy_sem.specs.Meter.{Outcome, Done, Fault, More, Spent}
 use Rattle.wy_sem.specs.TypeTests.{few_enough, same_names, alias_at, alias_holds}
 use Rattle.wy_sem.specs.Membership as sem
 use Rattle.wy_sem.specs.Membership.{belongs, name_belongs, belongs_of, is_yes, clauses_true, meaning_of, is_member}
-use Rattle.wy_conditions.specs.Numbered.{Node, exprs_in_decl, numbered_decls}
-use Rattle.wy_conditions.specs.Values.{Setting}
-use Rattle.wy_sound_expressions.specs.Suits.{Answers}
-use Rattle.wy_sound_expressions.specs.Types.{each_item, is_array_of, is_record_of, is_in, fields_in}
-use Rattle.wy_sound_kinds.specs.Bounded.{IsBounded, AreBounded, FieldsBounded}
-use Rattle.wy_sound_members.specs.Denotations.{alias_denotes}
+use Rattle.wy_sound_statements.specs.wy_vc_spec.Numbered.{Node, exprs_in_decl, numbered_decls}
+use Rattle.wy_sound_statements.specs.wy_vc_spec.Values.{Setting}
+use Rattle.wy_sound_statements.specs.wy_sound_walks.expressions.Suits.{Answers}
+use Rattle.wy_sound_statements.specs.wy_sound_walks.expressions.Types.{each_item, is_array_of, is_record_of, is_in, fields_in}
+use Rattle.wy_sound_statements.specs.wy_sound_kinds.Bounded.{IsBounded, AreBounded, FieldsBounded}
+use Rattle.wy_sound_types.specs.members.Denotations.{alias_denotes}
 use Rattle.wy_sound_types.specs.Tests.{setting_to}
-use Rattle.wy_sound_members.specs.Laws.{told_by}
+use Rattle.wy_sound_types.specs.members.Laws.{told_by}
 use Rattle.wy_sound_types.specs.Laws.{TypesHold, MembershipIsSaid}
-use Rattle.wy_sound_members.proofs.OperationLemmas.{both_same}
-use Rattle.wy_sound_members.proofs.ToldLemmas.{alias_past, defined_is}
+use Rattle.wy_sound_types.proofs.members_lemmas.ToldLemmas.{defined_is}
 use Rattle.wy_sound_types.proofs.ReadingLemmas.{Fits}
 use Rattle.wy_sound_types.proofs.RankLemmas.{clause_tells, tests_right}
 use Rattle.wy_sound_types.proofs.RestLemmas.{found, ordered}
@@ -42,9 +44,6 @@ same_lengths : (ds : List (Decl ℕ)) (k : ℕ) → length (names_in ds) ≡ len
 same_lengths [] k = refl
 same_lengths (AliasDecl a ∷ ds) k = ap suc (same_lengths ds (k + exprs_in_decl (AliasDecl a)))
 same_lengths (RoutineDecl r ∷ ds) k = same_lengths ds (k + exprs_in_decl (RoutineDecl r))
-
-no_way : {X : Type 0} → false ≡ true → X
-no_way e = absurd cc
 
 module _ (core : Core ℕ) (flow : List Ty) (members : ℕ → Datum → Bool) (h : TypesHold core flow members) (place : Node → ℕ) where
   abbrev s : Setting Node

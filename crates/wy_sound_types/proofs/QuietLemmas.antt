@@ -1,12 +1,12 @@
 -- Clauses of types of a formed core call nothing.
 use Rattle.std.proofs.Common.{ℕ, zero, suc, ◌+◌, List, [], ◌∷◌}
 use Rattle.wy_core.specs.CoreTree.{Expr, NullExpr, BoolExpr, IntExpr, VarExpr, CallExpr, NegExpr, NotExpr, LenExpr, BinaryExpr, IsExpr, IndexExpr, FieldExpr, ListExpr, RepeatExpr, RecordExpr, QuantExpr, Exprs, NoExprs, MoreExprs, Fields, NoFields, MoreFields, Decl, AliasDecl, RoutineDecl, aliases_of}
-use Rattle.wy_formed.specs.Offers.{Offers, offers_of}
-use Rattle.wy_formed.specs.Calls.{CallsExpr, CallsExprs, CallsFields, CallsClauses, Nothing, CallsDecls}
+use Rattle.wy_core.specs.formed.Offers.{Offers, offers_of}
+use Rattle.wy_core.specs.formed.Calls.{CallsExpr, CallsExprs, CallsFields, CallsClauses, Nothing, CallsDecls}
 use Rattle.wy_sem.specs.TypeTests.{alias_at}
-use Rattle.wy_conditions.specs.Sizes.{exprs_in}
-use Rattle.wy_conditions.specs.Numbered.{numbered, numbered_all, numbered_fields, numbered_list, exprs_in_decl, numbered_decls}
-use Rattle.wy_sound_clauses.specs.Quiet.{CallsNothing, AllCallNothing, FieldsCallNothing}
+use Rattle.wy_sound_statements.specs.wy_vc_spec.Sizes.{exprs_in}
+use Rattle.wy_sound_statements.specs.wy_vc_spec.Numbered.{numbered, numbered_all, numbered_fields, numbered_list, exprs_in_decl, numbered_decls}
+use Rattle.wy_sound_statements.specs.wy_sound_walks.clauses.Quiet.{CallsNothing, AllCallNothing, FieldsCallNothing}
 use Rattle.wy_sound_types.specs.Tests.{AllQuiet}
 use Rattle.wy_sound_types.specs.Typed.{ClausesOfTypesAreQuiet}
 

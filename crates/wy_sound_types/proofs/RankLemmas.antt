@@ -3,24 +3,24 @@ use Rattle.std.proofs.Common.{◌≡◌, ℕ, zero, suc, List, [], ◌∷◌, le
 use Rattle.wy_value.specs.Datum.{Datum}
 use Rattle.wy_core.specs.Types.{Ty}
 use Rattle.wy_core.specs.CoreTree.{Decl, AliasDecl, RoutineDecl, Core, aliases_of}
-use Rattle.wy_formed.specs.Offers.{offers_of}
+use Rattle.wy_core.specs.formed.Offers.{offers_of}
 use Rattle.wy_sem.specs.Meter.{choose}
 use Rattle.wy_sem.specs.TypeTests.{Questions, answer, alias_at, alias_holds, forgiven, tests, member}
-use Rattle.wy_conditions.specs.Numbered.{Node, numbered_core}
-use Rattle.wy_conditions.specs.Values.{Setting, named_in}
-use Rattle.wy_conditions.specs.Walks.{Program}
-use Rattle.wy_conditions.specs.Programs.{alias_conditions, decl_conditions, decls_conditions, program_of}
-use Rattle.wy_sound_expressions.specs.Truth.{AreTrueBy}
-use Rattle.wy_sound_expressions.specs.Types.{is_in}
-use Rattle.wy_sound_expressions.specs.Laws.{NamesTold}
-use Rattle.wy_sound_expressions.proofs.GoodLemmas.{true_left, true_right}
-use Rattle.wy_sound_expressions.specs.Suits.{Answers}
-use Rattle.wy_sound_kinds.specs.Bounded.{IsBounded}
-use Rattle.wy_sound_members.specs.Denotations.{alias_denotes}
+use Rattle.wy_sound_statements.specs.wy_vc_spec.Numbered.{Node, numbered_core}
+use Rattle.wy_sound_statements.specs.wy_vc_spec.Values.{Setting, named_in}
+use Rattle.wy_sound_statements.specs.wy_vc_spec.Walks.{Program}
+use Rattle.wy_sound_statements.specs.wy_vc_spec.Programs.{alias_conditions, decl_conditions, decls_conditions, program_of}
+use Rattle.wy_sound_statements.specs.wy_sound_walks.expressions.Truth.{AreTrueBy}
+use Rattle.wy_sound_statements.specs.wy_sound_walks.expressions.Types.{is_in}
+use Rattle.wy_sound_statements.specs.wy_sound_walks.expressions.Laws.{NamesTold}
+use Rattle.wy_sound_statements.proofs.wy_sound_walks_proofs.expressions_lemmas.GoodLemmas.{true_left, true_right}
+use Rattle.wy_sound_statements.specs.wy_sound_walks.expressions.Suits.{Answers}
+use Rattle.wy_sound_statements.specs.wy_sound_kinds.Bounded.{IsBounded}
+use Rattle.wy_sound_types.specs.members.Denotations.{alias_denotes}
 use Rattle.wy_sound_types.specs.Tests.{TestsTell, setting_to}
-use Rattle.wy_sound_members.specs.Laws.{told_by}
+use Rattle.wy_sound_types.specs.members.Laws.{told_by}
 use Rattle.wy_sound_types.specs.Laws.{TypesHold, TestsAreRight, ChecksAreRight}
-use Rattle.wy_sound_members.proofs.ToldLemmas.{AliasWritten, alias_written, told, defined_is}
+use Rattle.wy_sound_types.proofs.members_lemmas.ToldLemmas.{AliasWritten, alias_written, told, defined_is}
 use Rattle.wy_sound_types.proofs.TestLemmas.{Tells, tells_forgiven, tested_tells}
 use Rattle.wy_sound_types.proofs.AliasLemmas.{alias_tells}
 

@@ -2,6 +2,7 @@
 use Rattle.std.proofs.Common.{◌≡◌, refl, sym, ◌∙◌, ap, ℕ, zero, suc, ◌<◌, ◌≤◌, List, Bool, true, false, length, arith, is_some, slice_get, subst}
 use Rattle.std.specs.Prelude.{Option, Some, None, not, ◌&&◌, ◌||◌}
 use Rattle.std.specs.Str.{bytes_eq}
+use Rattle.wy_lemmas.proofs.Choices.{not_true, both_parts as both_true, both_true as and_true, false_true as none_in}
 use Rattle.wy_value.specs.Datum.{Datum, Null, Truth, Whole, Array, Record, Data, no_items, item, Fields, no_fields, field}
 use Rattle.wy_value.specs.Values.{names_of}
 use Rattle.wy_core.specs.Types.{Ty, NullTy, BoolTy, IntTy, AnyTy, VoidTy, RecordTy, ArrayTy, UnionTy, InterTy, NotTy, NamedTy, NormalTy, FieldTys, NoFieldTys, MoreFieldTys}
@@ -11,9 +12,9 @@ use Rattle.wy_types.specs.Shape.{Shape, NullShape, BoolShape, IntShape, ArraySha
 use Rattle.wy_types.specs.Names.{Declared, ty_in, declared_in, named_in, is_array, is_record_with, each_in_ty, fields_in_tys, is_in_ty, item_readers, field_readers, Up, Down}
 use Rattle.wy_types.specs.Recursion.{IsDeclaredBelow, HasBareBelow, IsOrdered}
 use Rattle.wy_sem.specs.TypeTests.{is_null, is_truth, is_whole, same_names, alias_at}
-use Rattle.wy_sound_expressions.specs.Types.{each_item, is_array_of, is_record_of, is_in, fields_in}
-use Rattle.wy_sound_expressions.specs.Written.{IsWritten, AreWritten}
-use Rattle.wy_sound_kinds.specs.Bounded.{IsBounded, AreBounded, FieldsBounded}
+use Rattle.wy_sound_statements.specs.wy_sound_walks.expressions.Types.{each_item, is_array_of, is_record_of, is_in, fields_in}
+use Rattle.wy_sound_statements.specs.wy_sound_walks.expressions.Written.{IsWritten, AreWritten}
+use Rattle.wy_sound_statements.specs.wy_sound_kinds.Bounded.{IsBounded, AreBounded, FieldsBounded}
 
 -- ---- between two readings
 
@@ -23,14 +24,6 @@ pub record Between (low mid high : Bool) : Type 0 where
 
 between_same : (b c : Bool) → c ≡ b → Between c b c
 between_same b c e = record { low_in = λ h. sym e ∙ h; in_high = λ h. e ∙ h }
-
-both_true : (a b : Bool) → (a && b) ≡ true → (a ≡ true) × (b ≡ true)
-both_true true b h = (refl, h)
-both_true false b h = absurd cc
-
-and_true : (a b : Bool) → a ≡ true → b ≡ true → (a && b) ≡ true
-and_true true b p q = q
-and_true false b p q = p
 
 and_more : (a b c d : Bool) → (a ≡ true → b ≡ true) → (c ≡ true → d ≡ true) → (a && c) ≡ true → (b && d) ≡ true
 and_more a b c d p q h = let two = both_true a c h in and_true b d (p two.0) (q two.1)
@@ -72,13 +65,6 @@ Fits (Some e) a = (e.ty ≡ a.ty) × (e.constrained ≡ is_some a.variable)
 pub record Defines {N : Type 0} (types : List (Alias N)) (members : ℕ → Datum → Bool) (says : ℕ → Datum → Bool) : Type 0 where
   pub members_are : (n : ℕ) (d : Datum) → members n d ≡ (is_in members (alias_at types n).ty d && says n d)
   pub free : (n : ℕ) (d : Datum) → is_some (alias_at types n).variable ≡ false → says n d ≡ true
-
-not_true : (b : Bool) → not b ≡ true → b ≡ false
-not_true false h = refl
-not_true true h = absurd cc
-
-none_in : {X : Type 0} → false ≡ true → X
-none_in e = absurd cc
 
 none_is : (e : Declared) → ◌≡◌ {A = Option Declared} None (Some e) → ⊥
 none_is e q = absurd cc

@@ -3,28 +3,28 @@ use Rattle.std.proofs.Common.{◌≡◌, ℕ, ◌+◌, zero, suc, List, [], ◌�
 use Rattle.wy_value.specs.Datum.{Datum}
 use Rattle.wy_core.specs.Types.{Ty}
 use Rattle.wy_core.specs.CoreTree.{Expr, Decl, AliasDecl, RoutineDecl, Core, aliases_of}
-use Rattle.wy_formed.specs.Offers.{offers_of}
-use Rattle.wy_formed_types.proofs.OrderLemmas.{ordered_types}
+use Rattle.wy_core.specs.formed.Offers.{offers_of}
+use Rattle.wy_types.proofs.formed_lemmas.OrderLemmas.{ordered_types}
 use Rattle.wy_types.specs.Names.{Declared, names_in, Up, Down}
 use Rattle.wy_types.specs.Recursion.{RecurThroughParts}
-use Rattle.wy_typing.specs.Programs.{program_of}
+use Rattle.wy_sound_statements.specs.wy_flow_spec.typing.Programs.{program_of}
 use Rattle.wy_sem.specs.Meter.{Meter, Outcome, Done}
 use Rattle.wy_sem.specs.Expressions as sem
 use Rattle.wy_sem.specs.TypeTests.{has_clauses, alias_at, is_constrained}
-use Rattle.wy_conditions.specs.Numbered.{Node, exprs_in_decl, numbered_decls}
-use Rattle.wy_conditions.specs.Values.{Setting}
-use Rattle.wy_sound_expressions.specs.Types.{is_in}
-use Rattle.wy_sound_expressions.specs.Written.{IsWritten}
-use Rattle.wy_sound_expressions.specs.Suits.{Answers}
-use Rattle.wy_sound_kinds.specs.Bounded.{IsBounded}
-use Rattle.wy_sound_kinds.specs.Ready.{Rules}
-use Rattle.wy_sound_kinds.specs.Kinds.{Rests}
-use Rattle.wy_sound_suits.specs.Laws.{Asks}
-use Rattle.wy_sound_members.specs.Denotations.{clauses_denote, alias_denotes}
+use Rattle.wy_sound_statements.specs.wy_vc_spec.Numbered.{Node, exprs_in_decl, numbered_decls}
+use Rattle.wy_sound_statements.specs.wy_vc_spec.Values.{Setting}
+use Rattle.wy_sound_statements.specs.wy_sound_walks.expressions.Types.{is_in}
+use Rattle.wy_sound_statements.specs.wy_sound_walks.expressions.Written.{IsWritten}
+use Rattle.wy_sound_statements.specs.wy_sound_walks.expressions.Suits.{Answers}
+use Rattle.wy_sound_statements.specs.wy_sound_kinds.Bounded.{IsBounded}
+use Rattle.wy_sound_statements.specs.wy_sound_kinds.Ready.{Rules}
+use Rattle.wy_sound_statements.specs.wy_sound_kinds.Kinds.{Rests}
+use Rattle.wy_sound_statements.specs.wy_sound_kinds.suits.Laws.{Asks}
+use Rattle.wy_sound_types.specs.members.Denotations.{clauses_denote, alias_denotes}
 use Rattle.wy_sound_types.specs.Tests.{TestsTell}
-use Rattle.wy_sound_members.specs.Laws.{told_by}
+use Rattle.wy_sound_types.specs.members.Laws.{told_by}
 use Rattle.wy_sound_types.specs.Laws.{TypesMeet, Gives, TypesAreRead}
-use Rattle.wy_sound_members.proofs.ToldLemmas.{alias_written, defined_is}
+use Rattle.wy_sound_types.proofs.members_lemmas.ToldLemmas.{alias_written, defined_is}
 use Rattle.wy_sound_types.proofs.ReadingLemmas.{Between, Fits, Defines, between}
 use Rattle.wy_sound_types.proofs.ExactLemmas.{readings_same}
 

@@ -1,43 +1,47 @@
 -- Arguments fit, and so do the clauses of contracts.
 use Rattle.std.proofs.Common.{◌≡◌, ◌<◌, ℕ, zero, suc, ◌+◌, ◌==◌, ◌||◌, List, [], ◌∷◌, length, Bool, true, false, Option, Some, None, refl, sym, ap, ◌∙◌, subst, arith, eqb-true}
+use Rattle.wy_lemmas.proofs.Choices.{apart_of, false_true as no_value}
+use Rattle.wy_sem.proofs.SharedLemmas.{unset_length}
+use Rattle.wy_sound_statements.proofs.wy_sound_kinds_proofs.frames_lemmas.FrameLemmas.{put_other}
+use Rattle.wy_sound_statements.proofs.wy_sound_kinds_proofs.NodeLemmas.{same_some}
 use Rattle.wy_value.specs.Datum.{Datum}
 use Rattle.wy_core.specs.Types.{Ty}
 use Rattle.wy_core.specs.CoreTree as tree
 use Rattle.wy_core.specs.CoreTree.{Expr, Param, Routine, Core}
 use Rattle.wy_types.specs.Names.{Declared, names_in, Up}
 use Rattle.wy_types.specs.Recursion.{RecurThroughParts}
-use Rattle.wy_environment.specs.Slots.{slot_at, put_slot}
-use Rattle.wy_environment.specs.Variables.{Environment, nothing_known, or_void, given, type_of}
-use Rattle.wy_typing.specs.Outcomes.{Gives}
-use Rattle.wy_typing.specs.Loops.{ClausesTyped}
-use Rattle.wy_typing.specs.Programs.{program_of, types_of, WithVariable, WithParams, WithNamed, WithResult}
+use Rattle.wy_sound_statements.specs.wy_flow_spec.environment.Slots.{slot_at, put_slot}
+use Rattle.wy_sound_statements.specs.wy_flow_spec.environment.Variables.{Environment, nothing_known, or_void, given, type_of}
+use Rattle.wy_sound_statements.specs.wy_flow_spec.typing.Outcomes.{Gives}
+use Rattle.wy_sound_statements.specs.wy_flow_spec.typing.Loops.{ClausesTyped}
+use Rattle.wy_sound_statements.specs.wy_flow_spec.typing.Programs.{program_of, types_of, WithVariable, WithParams, WithNamed, WithResult}
 use Rattle.wy_sem.specs.Expressions as sem
 use Rattle.wy_sem.specs.Expressions.{slot, put}
 use Rattle.wy_sem.specs.TypeTests.{unset, set_if}
 use Rattle.wy_sem.specs.Evaluation.{bound}
-use Rattle.wy_conditions.specs.Sizes.{exprs_in_list}
-use Rattle.wy_conditions.specs.Numbered.{Node, numbered_list, numbered_routine}
-use Rattle.wy_conditions.specs.Values.{Setting}
-use Rattle.wy_sound_parts.proofs.NormLemmas.{norms_same}
-use Rattle.wy_sound_expressions.specs.Names.{also}
-use Rattle.wy_sound_expressions.specs.Types.{is_in}
-use Rattle.wy_sound_expressions.specs.Written.{IsWritten}
-use Rattle.wy_sound_clauses.specs.Clauses.{AllFit}
-use Rattle.wy_sound_kinds.specs.Bounded.{IsBounded, AllBounded}
-use Rattle.wy_sound_kinds.specs.Ready.{Rules}
-use Rattle.wy_sound_kinds.specs.Kinds.{HasValues, HasTypes, AreIn, Rests}
-use Rattle.wy_sound_kinds.proofs.TypeLemmas.{then_gives, given_is, put_same, put_other, put_length, apart_of}
-use Rattle.wy_sound_suits.specs.Laws.{Begins, Asks}
-use Rattle.wy_sound_suits.proofs.FlowLemmas.{begins_more}
-use Rattle.wy_sound_fits.specs.Fit.{ClausesReady}
-use Rattle.wy_sound_fits.proofs.FitLemmas.{clauses_fit}
-use Rattle.wy_sound_calls.specs.CallLaws.{with_params, nothing_seen, also_if, ArgumentsFit, ClausesFit}
-use Rattle.wy_sound_members.specs.Laws.{told_by}
+use Rattle.wy_sound_statements.specs.wy_vc_spec.Sizes.{exprs_in_list}
+use Rattle.wy_sound_statements.specs.wy_vc_spec.Numbered.{Node, numbered_list, numbered_routine}
+use Rattle.wy_sound_statements.specs.wy_vc_spec.Values.{Setting}
+use Rattle.wy_sound_statements.proofs.wy_types_laws_proofs.parts_lemmas.NormLemmas.{norms_same}
+use Rattle.wy_sound_statements.specs.wy_sound_walks.expressions.Names.{also}
+use Rattle.wy_sound_statements.specs.wy_sound_walks.expressions.Types.{is_in}
+use Rattle.wy_sound_statements.specs.wy_sound_walks.expressions.Written.{IsWritten}
+use Rattle.wy_sound_statements.specs.wy_sound_walks.clauses.Clauses.{AllFit}
+use Rattle.wy_sound_statements.specs.wy_sound_kinds.Bounded.{IsBounded, AllBounded}
+use Rattle.wy_sound_statements.specs.wy_sound_kinds.Ready.{Rules}
+use Rattle.wy_sound_statements.specs.wy_sound_kinds.Kinds.{HasValues, HasTypes, AreIn, Rests}
+use Rattle.wy_sound_statements.proofs.wy_sound_kinds_proofs.TypeLemmas.{then_gives, given_is, put_same, put_length}
+use Rattle.wy_sound_statements.specs.wy_sound_kinds.suits.Laws.{Begins, Asks}
+use Rattle.wy_sound_statements.proofs.wy_sound_kinds_proofs.suits_lemmas.FlowLemmas.{begins_more}
+use Rattle.wy_sound_statements.specs.wy_sound_kinds.fits.Fit.{ClausesReady}
+use Rattle.wy_sound_statements.proofs.wy_sound_kinds_proofs.fits_lemmas.FitLemmas.{clauses_fit}
+use Rattle.wy_sound_statements.specs.calls.CallLaws.{with_params, nothing_seen, also_if, ArgumentsFit, ClausesFit}
+use Rattle.wy_sound_types.specs.members.Laws.{told_by}
 use Rattle.wy_sound_types.specs.Tests.{TestsTell}
 use Rattle.wy_sound_types.specs.Laws.{TypesMeet}
 use Rattle.wy_sound_types.specs.Routines.{ParamsAmong, ResultAmong, with_result, TypedContract, ContractsFit}
 use Rattle.wy_sound_types.proofs.RestLemmas.{read, ordered, rests, asks, free}
-use Rattle.wy_sound_types.proofs.TypedLemmas.{slot_put, unset_length, same_some, no_answer, clauses_flow}
+use Rattle.wy_sound_types.proofs.TypedLemmas.{slot_put, no_answer, clauses_flow}
 
 -- ---- one more variable
 
@@ -131,9 +135,6 @@ arguments_fit core flow members h n (p ∷ ps) (v ∷ vs) len among bounded insi
 )
 
 -- ---- clauses
-
-no_value : {X : Type 0} → false ≡ true → X
-no_value e = absurd cc
 
 module _ (core : Core ℕ) (flow : List Ty) (members : ℕ → Datum → Bool) (h : TypesMeet core flow members) (r : Rules) (source : (t : Ty) → r.tested t ≡ true → IsWritten t)
     (w : sem.Setting Node) (tells : TestsTell members (w.test false)) where

@@ -4,13 +4,13 @@ use Rattle.std.specs.Prelude.{Some, None, not}
 use Rattle.wy_value.specs.Datum.{Datum, Null, Truth, Whole, Array, Record, Data, no_items, item, Fields, no_fields, field}
 use Rattle.wy_core.specs.Types.{Ty, NullTy, BoolTy, IntTy, AnyTy, VoidTy, RecordTy, ArrayTy, UnionTy, InterTy, NotTy, NamedTy, NormalTy, FieldTys, NoFieldTys, MoreFieldTys}
 use Rattle.wy_core.specs.CoreTree.{Expr, Alias, Core}
-use Rattle.wy_formed.specs.Bound.{Bound}
-use Rattle.wy_formed.specs.Recursion.{Recursion}
+use Rattle.wy_core.specs.formed.Bound.{Bound}
+use Rattle.wy_core.specs.formed.Recursion.{Recursion}
 use Rattle.wy_sem.specs.Expressions.{Store, node}
 use Rattle.wy_sem.specs.TypeTests.{Test, answer, both, either, opposite, Questions, visit, asked, name_asked, asked_of, is_null, is_truth, is_whole, few_enough, same_names, tested, items_tested, parts_tested, alias_at, unset, set_if, all_hold, alias_holds, tests}
-use Rattle.wy_conditions.specs.Numbered.{Node}
-use Rattle.wy_grounded_conditions.specs.Uses.{NamesAll, AllNamesAll, NamesBare, ClausesTestAll}
-use Rattle.wy_grounded_conditions.proofs.LevelLemmas.{types, level, level_within, level_above, ranked, rank_within, types_levelled}
+use Rattle.wy_sound_statements.specs.wy_vc_spec.Numbered.{Node}
+use Rattle.wy_vc_laws.specs.grounded.Uses.{NamesAll, AllNamesAll, NamesBare, ClausesTestAll}
+use Rattle.wy_vc_laws.proofs.grounded_lemmas.LevelLemmas.{types, level, level_within, level_above, ranked, rank_within, types_levelled}
 use Rattle.wy_sound_types.proofs.ExactLemmas.{all_names, all_in_fields}
 use Rattle.wy_sound_types.specs.Tests.{AllQuiet, setting_to}
 use Rattle.wy_sound_types.proofs.EndLemmas.{Ended, bound, done, chosen, with_truth, counted, eval_ends}

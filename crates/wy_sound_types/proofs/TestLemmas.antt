@@ -5,9 +5,9 @@ use Rattle.wy_value.specs.Datum.{Datum, Null, Truth, Whole, Array, Record, Data,
 use Rattle.wy_core.specs.Types.{Ty, NullTy, BoolTy, IntTy, AnyTy, VoidTy, RecordTy, ArrayTy, UnionTy, InterTy, NotTy, NamedTy, NormalTy, FieldTys, NoFieldTys, MoreFieldTys}
 use Rattle.wy_sem.specs.Meter.{Meter, Outcome, Done, Fault, More, Spent, ◌>>=◌, tick, count, turn, choose}
 use Rattle.wy_sem.specs.TypeTests.{Test, answer, both, either, opposite, Questions, visit, asked, name_asked, asked_of, is_null, is_truth, is_whole, few_enough, same_names, tested, items_tested, parts_tested, forgiven}
-use Rattle.wy_sound_expressions.specs.Suits.{Answers}
-use Rattle.wy_sound_expressions.specs.Types.{each_item, is_array_of, is_record_of, is_in, fields_in}
-use Rattle.wy_sound_kinds.specs.Bounded.{IsBounded, AreBounded, FieldsBounded}
+use Rattle.wy_sound_statements.specs.wy_sound_walks.expressions.Suits.{Answers}
+use Rattle.wy_sound_statements.specs.wy_sound_walks.expressions.Types.{each_item, is_array_of, is_record_of, is_in, fields_in}
+use Rattle.wy_sound_statements.specs.wy_sound_kinds.Bounded.{IsBounded, AreBounded, FieldsBounded}
 
 -- the test is no fault, and its answer is this one
 pub record Tells (b : Bool) (t : Test) : Type 0 where

@@ -1,47 +1,49 @@
 -- What the clauses of types meet is of the kinds that they ask for.
 use Rattle.std.proofs.Common.{◌≡◌, ◌<◌, ◌≤◌, ◌⊎◌, inl, inr, ℕ, zero, suc, ◌+◌, ◌==◌, ◌||◌, List, [], ◌∷◌, length, Bool, true, false, Option, Some, None, refl, sym, ap, ◌∙◌, subst, arith, eqb-true}
 use Rattle.std.proofs.lemmas.Bool.{cases_lt}
+use Rattle.wy_sem.proofs.SharedLemmas.{alias_past, unset_length}
+use Rattle.wy_sound_statements.proofs.wy_sound_kinds_proofs.NodeLemmas.{same_some}
 use Rattle.wy_value.specs.Datum.{Datum}
 use Rattle.wy_core.specs.Types.{Ty}
 use Rattle.wy_core.specs.CoreTree.{Expr, Alias, Core}
-use Rattle.wy_formed.specs.Offers.{offers_of}
+use Rattle.wy_core.specs.formed.Offers.{offers_of}
 use Rattle.wy_types.specs.Names.{Declared, names_in, Up}
-use Rattle.wy_environment.specs.Slots.{slot_at, put_slot}
-use Rattle.wy_environment.specs.Variables.{Environment, nothing_known, or_void, given, type_of}
-use Rattle.wy_typing.specs.Outcomes.{Gives}
-use Rattle.wy_typing.specs.Contexts.{Program, Found}
-use Rattle.wy_typing.specs.Loops.{ClausesTyped}
-use Rattle.wy_typing.specs.Programs.{program_of, AliasTyped}
+use Rattle.wy_sound_statements.specs.wy_flow_spec.environment.Slots.{slot_at, put_slot}
+use Rattle.wy_sound_statements.specs.wy_flow_spec.environment.Variables.{Environment, nothing_known, or_void, given, type_of}
+use Rattle.wy_sound_statements.specs.wy_flow_spec.typing.Outcomes.{Gives}
+use Rattle.wy_sound_statements.specs.wy_flow_spec.typing.Contexts.{Program, Found}
+use Rattle.wy_sound_statements.specs.wy_flow_spec.typing.Loops.{ClausesTyped}
+use Rattle.wy_sound_statements.specs.wy_flow_spec.typing.Programs.{program_of, AliasTyped}
 use Rattle.wy_sem.specs.Meter.{Meter, Done}
 use Rattle.wy_sem.specs.Expressions as sem
 use Rattle.wy_sem.specs.Expressions.{slot, put}
 use Rattle.wy_sem.specs.TypeTests.{alias_at, unset}
-use Rattle.wy_conditions.specs.Sizes.{exprs_in, exprs_in_list}
-use Rattle.wy_conditions.specs.Numbered.{Node, numbered, numbered_list}
-use Rattle.wy_conditions.specs.Values.{Setting}
-use Rattle.wy_sound_parts.proofs.NormLemmas.{norms_same}
-use Rattle.wy_sound_expressions.specs.Names.{also}
-use Rattle.wy_sound_expressions.specs.Types.{is_in}
-use Rattle.wy_sound_expressions.specs.Written.{IsWritten}
-use Rattle.wy_sound_expressions.specs.Suits.{Suits}
-use Rattle.wy_sound_expressions.specs.Laws.{kinds_of}
-use Rattle.wy_sound_frames.proofs.EveryLemmas.{every_of}
-use Rattle.wy_sound_kinds.specs.Bounded.{IsBounded}
-use Rattle.wy_sound_kinds.specs.Ready.{Rules}
-use Rattle.wy_sound_kinds.specs.Kinds.{HasValues, HasTypes, Kind, Rests}
-use Rattle.wy_sound_kinds.proofs.TypeLemmas.{then_gives, given_is, put_same, put_length}
-use Rattle.wy_sound_kinds.proofs.KindLemmas.{kind}
-use Rattle.wy_sound_suits.specs.Laws.{Begins, Asks, TellsNumbers}
-use Rattle.wy_sound_suits.proofs.FlowLemmas.{FlowAll, begins_self, begins_more, flow_of, flow_length, flow_begins}
-use Rattle.wy_sound_suits.proofs.KindLemmas.{truth_in}
-use Rattle.wy_sound_suits.proofs.SuitLemmas.{contracts_suit}
-use Rattle.wy_sound_fits.specs.Fit.{ClausesReady}
-use Rattle.wy_sound_fits.proofs.FitLemmas.{quiet}
+use Rattle.wy_sound_statements.specs.wy_vc_spec.Sizes.{exprs_in, exprs_in_list}
+use Rattle.wy_sound_statements.specs.wy_vc_spec.Numbered.{Node, numbered, numbered_list}
+use Rattle.wy_sound_statements.specs.wy_vc_spec.Values.{Setting}
+use Rattle.wy_sound_statements.proofs.wy_types_laws_proofs.parts_lemmas.NormLemmas.{norms_same}
+use Rattle.wy_sound_statements.specs.wy_sound_walks.expressions.Names.{also}
+use Rattle.wy_sound_statements.specs.wy_sound_walks.expressions.Types.{is_in}
+use Rattle.wy_sound_statements.specs.wy_sound_walks.expressions.Written.{IsWritten}
+use Rattle.wy_sound_statements.specs.wy_sound_walks.expressions.Suits.{Suits}
+use Rattle.wy_sound_statements.specs.wy_sound_walks.expressions.Laws.{kinds_of}
+use Rattle.wy_sound_statements.proofs.wy_sound_kinds_proofs.frames_lemmas.EveryLemmas.{every_of}
+use Rattle.wy_sound_statements.specs.wy_sound_kinds.Bounded.{IsBounded}
+use Rattle.wy_sound_statements.specs.wy_sound_kinds.Ready.{Rules}
+use Rattle.wy_sound_statements.specs.wy_sound_kinds.Kinds.{HasValues, HasTypes, Kind, Rests}
+use Rattle.wy_sound_statements.proofs.wy_sound_kinds_proofs.TypeLemmas.{then_gives, given_is, put_same, put_length}
+use Rattle.wy_sound_statements.proofs.wy_sound_kinds_proofs.KindLemmas.{kind}
+use Rattle.wy_sound_statements.specs.wy_sound_kinds.suits.Laws.{Begins, Asks, TellsNumbers}
+use Rattle.wy_sound_statements.proofs.wy_sound_kinds_proofs.suits_lemmas.FlowLemmas.{FlowAll, begins_self, begins_more, flow_of, flow_length, flow_begins}
+use Rattle.wy_sound_statements.proofs.wy_sound_kinds_proofs.suits_lemmas.KindLemmas.{truth_in}
+use Rattle.wy_sound_statements.proofs.wy_sound_kinds_proofs.suits_lemmas.SuitLemmas.{contracts_suit}
+use Rattle.wy_sound_statements.specs.wy_sound_kinds.fits.Fit.{ClausesReady}
+use Rattle.wy_sound_statements.proofs.wy_sound_kinds_proofs.fits_lemmas.FitLemmas.{quiet}
 use Rattle.wy_sound_types.specs.Tests.{TestsTell, ClausesMeet, no_variable, setting_to}
-use Rattle.wy_sound_members.specs.Laws.{told_by}
+use Rattle.wy_sound_types.specs.members.Laws.{told_by}
 use Rattle.wy_sound_types.specs.Laws.{TypesMeet}
 use Rattle.wy_sound_types.specs.Typed.{TypedAlias, AliasesTyped, AliasesReady, ClausesOfTypesMeet}
-use Rattle.wy_sound_members.proofs.ToldLemmas.{alias_written, alias_past}
+use Rattle.wy_sound_types.proofs.members_lemmas.ToldLemmas.{alias_written}
 use Rattle.wy_sound_types.proofs.RestLemmas.{read, ordered, rests, asks}
 
 -- ---- clauses
@@ -93,13 +95,6 @@ slot_put [] zero t = refl
 slot_put [] (suc x) t = slot_put [] x t
 slot_put (o ∷ slots) zero t = refl
 slot_put (o ∷ slots) (suc x) t = slot_put slots x t
-
-pub unset_length : (names : List (List ℕ)) → length (unset names) ≡ length names
-unset_length [] = refl
-unset_length (n ∷ ns) = ap suc (unset_length ns)
-
-pub same_some : (a b : Datum) → ◌≡◌ {A = Option Datum} (Some a) (Some b) → a ≡ b
-same_some a b p = cc
 
 -- the one variable
 only : (x y : ℕ) → also x no_variable y ≡ true → x ≡ y

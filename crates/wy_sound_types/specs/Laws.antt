@@ -3,28 +3,28 @@ use Rattle.std.specs.Prelude.{◌≡◌, ℕ, List, Bool, true, false, Option, S
 use Rattle.wy_value.specs.Datum.{Datum}
 use Rattle.wy_core.specs.Types.{Ty}
 use Rattle.wy_core.specs.CoreTree.{Core}
-use Rattle.wy_formed.specs.Bound.{Bound}
-use Rattle.wy_formed.specs.Recursion.{Recursion}
+use Rattle.wy_core.specs.formed.Bound.{Bound}
+use Rattle.wy_core.specs.formed.Recursion.{Recursion}
 use Rattle.wy_types.specs.Names.{names_in, Up, Down}
-use Rattle.wy_typing.specs.Contexts.{Program}
-use Rattle.wy_typing.specs.Programs as typing
+use Rattle.wy_sound_statements.specs.wy_flow_spec.typing.Contexts.{Program}
+use Rattle.wy_sound_statements.specs.wy_flow_spec.typing.Programs as typing
 use Rattle.wy_sem.specs.Meter.{Meter, Done}
 use Rattle.wy_sem.specs.Expressions as sem
 use Rattle.wy_sem.specs.TypeTests.{alias_at, is_constrained, tests, member}
 use Rattle.wy_sem.specs.Membership.{is_member}
 use Rattle.wy_sem.specs.Evaluation.{owed_member}
-use Rattle.wy_conditions.specs.Numbered.{Node}
-use Rattle.wy_conditions.specs.Programs.{conditions_of}
-use Rattle.wy_sound_expressions.specs.Truth.{AreTrueBy}
-use Rattle.wy_sound_expressions.specs.Types.{is_in}
-use Rattle.wy_sound_expressions.specs.Written.{IsWritten}
-use Rattle.wy_sound_kinds.specs.Bounded.{IsBounded}
-use Rattle.wy_sound_kinds.specs.Ready.{Rules}
-use Rattle.wy_sound_kinds.specs.Kinds.{AreFor, IsResult, Rests}
-use Rattle.wy_sound_suits.specs.Laws.{Asks}
-use Rattle.wy_sound_calls.specs.CallLaws.{Checks}
-use Rattle.wy_sound_members.specs.Members.{MeetFormulas}
-use Rattle.wy_sound_members.specs.Laws.{told_by}
+use Rattle.wy_sound_statements.specs.wy_vc_spec.Numbered.{Node}
+use Rattle.wy_sound_statements.specs.wy_vc_spec.Programs.{conditions_of}
+use Rattle.wy_sound_statements.specs.wy_sound_walks.expressions.Truth.{AreTrueBy}
+use Rattle.wy_sound_statements.specs.wy_sound_walks.expressions.Types.{is_in}
+use Rattle.wy_sound_statements.specs.wy_sound_walks.expressions.Written.{IsWritten}
+use Rattle.wy_sound_statements.specs.wy_sound_kinds.Bounded.{IsBounded}
+use Rattle.wy_sound_statements.specs.wy_sound_kinds.Ready.{Rules}
+use Rattle.wy_sound_statements.specs.wy_sound_kinds.Kinds.{AreFor, IsResult, Rests}
+use Rattle.wy_sound_statements.specs.wy_sound_kinds.suits.Laws.{Asks}
+use Rattle.wy_sound_statements.specs.calls.CallLaws.{Checks}
+use Rattle.wy_sound_types.specs.members.Members.{MeetFormulas}
+use Rattle.wy_sound_types.specs.members.Laws.{told_by}
 use Rattle.wy_sound_types.specs.Tests.{TestsTell, HaveVariables, AllQuiet, AliasesMeet}
 
 -- what is asked of a program and of data for its types: they meet the formulas, types have variables exactly where they have clauses, and clauses of types call nothing

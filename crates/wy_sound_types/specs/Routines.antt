@@ -5,20 +5,20 @@ use Rattle.wy_core.specs.Types.{Ty}
 use Rattle.wy_core.specs.CoreTree as tree
 use Rattle.wy_core.specs.CoreTree.{Param, Routine, Core}
 use Rattle.wy_types.specs.Names.{names_in}
-use Rattle.wy_environment.specs.Variables.{Environment, nothing_known}
-use Rattle.wy_typing.specs.Outcomes.{Gives}
-use Rattle.wy_typing.specs.Loops.{ClausesTyped}
-use Rattle.wy_typing.specs.Programs.{program_of, types_of, WithParams, WithResult}
+use Rattle.wy_sound_statements.specs.wy_flow_spec.environment.Variables.{Environment, nothing_known}
+use Rattle.wy_sound_statements.specs.wy_flow_spec.typing.Outcomes.{Gives}
+use Rattle.wy_sound_statements.specs.wy_flow_spec.typing.Loops.{ClausesTyped}
+use Rattle.wy_sound_statements.specs.wy_flow_spec.typing.Programs.{program_of, types_of, WithParams, WithResult}
 use Rattle.wy_sem.specs.Expressions as sem
-use Rattle.wy_conditions.specs.Numbered.{Node, numbered_routine}
-use Rattle.wy_sound_expressions.specs.Written.{IsWritten}
-use Rattle.wy_sound_kinds.specs.Bounded.{AllBounded}
-use Rattle.wy_sound_kinds.specs.Ready.{Rules}
-use Rattle.wy_sound_kinds.specs.Kinds.{AreIn}
-use Rattle.wy_sound_suits.specs.Laws.{Begins}
-use Rattle.wy_sound_fits.specs.Fit.{ClausesReady}
-use Rattle.wy_sound_calls.specs.CallLaws.{with_params, nothing_seen, also_if, ArgumentsFit, ClausesFit}
-use Rattle.wy_sound_members.specs.Laws.{told_by}
+use Rattle.wy_sound_statements.specs.wy_vc_spec.Numbered.{Node, numbered_routine}
+use Rattle.wy_sound_statements.specs.wy_sound_walks.expressions.Written.{IsWritten}
+use Rattle.wy_sound_statements.specs.wy_sound_kinds.Bounded.{AllBounded}
+use Rattle.wy_sound_statements.specs.wy_sound_kinds.Ready.{Rules}
+use Rattle.wy_sound_statements.specs.wy_sound_kinds.Kinds.{AreIn}
+use Rattle.wy_sound_statements.specs.wy_sound_kinds.suits.Laws.{Begins}
+use Rattle.wy_sound_statements.specs.wy_sound_kinds.fits.Fit.{ClausesReady}
+use Rattle.wy_sound_statements.specs.calls.CallLaws.{with_params, nothing_seen, also_if, ArgumentsFit, ClausesFit}
+use Rattle.wy_sound_types.specs.members.Laws.{told_by}
 use Rattle.wy_sound_types.specs.Tests.{TestsTell}
 use Rattle.wy_sound_types.specs.Laws.{TypesMeet}
 

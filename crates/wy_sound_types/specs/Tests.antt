@@ -7,15 +7,15 @@ use Rattle.wy_sem.specs.Meter.{Meter}
 use Rattle.wy_sem.specs.Expressions as sem
 use Rattle.wy_sem.specs.Expressions.{no_calls}
 use Rattle.wy_sem.specs.TypeTests.{Test, has_clauses, alias_at, unset, tests}
-use Rattle.wy_conditions.specs.Numbered.{Node}
-use Rattle.wy_conditions.specs.Values.{Setting}
-use Rattle.wy_sound_terms.specs.Kinds.{IsTruth}
-use Rattle.wy_sound_expressions.specs.Names.{also}
-use Rattle.wy_sound_expressions.specs.Types.{is_in}
-use Rattle.wy_sound_expressions.specs.Suits.{Each, Answers, Suits}
-use Rattle.wy_sound_expressions.specs.Laws.{kinds_of}
-use Rattle.wy_sound_clauses.specs.Quiet.{CallsNothing}
-use Rattle.wy_sound_kinds.specs.Bounded.{IsBounded}
+use Rattle.wy_sound_statements.specs.wy_vc_spec.Numbered.{Node}
+use Rattle.wy_sound_statements.specs.wy_vc_spec.Values.{Setting}
+use Rattle.wy_vc_laws.specs.wy_sound_terms.operations.Kinds.{IsTruth}
+use Rattle.wy_sound_statements.specs.wy_sound_walks.expressions.Names.{also}
+use Rattle.wy_sound_statements.specs.wy_sound_walks.expressions.Types.{is_in}
+use Rattle.wy_sound_statements.specs.wy_sound_walks.expressions.Suits.{Each, Answers, Suits}
+use Rattle.wy_sound_statements.specs.wy_sound_walks.expressions.Laws.{kinds_of}
+use Rattle.wy_sound_statements.specs.wy_sound_walks.clauses.Quiet.{CallsNothing}
+use Rattle.wy_sound_statements.specs.wy_sound_kinds.Bounded.{IsBounded}
 
 -- ---- tests
 

@@ -3,18 +3,18 @@ use Rattle.std.specs.Prelude.{◌≡◌, ◌<◌, ℕ, List, length, Bool, true,
 use Rattle.wy_value.specs.Datum.{Datum}
 use Rattle.wy_core.specs.Types.{Ty}
 use Rattle.wy_core.specs.CoreTree.{Alias, Core, aliases_of}
-use Rattle.wy_formed.specs.Calls.{Calls}
-use Rattle.wy_typing.specs.Outcomes.{Gives}
-use Rattle.wy_typing.specs.Programs.{program_of, AliasTyped}
+use Rattle.wy_core.specs.formed.Calls.{Calls}
+use Rattle.wy_sound_statements.specs.wy_flow_spec.typing.Outcomes.{Gives}
+use Rattle.wy_sound_statements.specs.wy_flow_spec.typing.Programs.{program_of, AliasTyped}
 use Rattle.wy_sem.specs.TypeTests.{alias_at}
-use Rattle.wy_conditions.specs.Numbered.{numbered_alias}
-use Rattle.wy_sound_expressions.specs.Names.{also}
-use Rattle.wy_sound_expressions.specs.Written.{IsWritten}
-use Rattle.wy_sound_kinds.specs.Ready.{Rules}
-use Rattle.wy_sound_suits.specs.Laws.{Begins}
-use Rattle.wy_sound_fits.specs.Fit.{ClausesReady}
+use Rattle.wy_sound_statements.specs.wy_vc_spec.Numbered.{numbered_alias}
+use Rattle.wy_sound_statements.specs.wy_sound_walks.expressions.Names.{also}
+use Rattle.wy_sound_statements.specs.wy_sound_walks.expressions.Written.{IsWritten}
+use Rattle.wy_sound_statements.specs.wy_sound_kinds.Ready.{Rules}
+use Rattle.wy_sound_statements.specs.wy_sound_kinds.suits.Laws.{Begins}
+use Rattle.wy_sound_statements.specs.wy_sound_kinds.fits.Fit.{ClausesReady}
 use Rattle.wy_sound_types.specs.Tests.{AllQuiet, no_variable, AliasesMeet}
-use Rattle.wy_sound_members.specs.Laws.{told_by}
+use Rattle.wy_sound_types.specs.members.Laws.{told_by}
 use Rattle.wy_sound_types.specs.Laws.{TypesMeet}
 
 -- the type with this number: its clauses are typed behind the expressions before them, and have numbers from theirs on

@@ -5,6 +5,8 @@
 #![tactic(auto)]
 
 mod law;
+pub mod members;
+pub mod sound_routines;
 
 pub use law::{
     checks_are_right, clauses_of_types_are_quiet, clauses_of_types_meet, contracts_fit,

@@ -3,7 +3,10 @@ use Rattle.std.proofs.Common.{◌≡◌, ℕ, zero, suc, ◌+◌, ◌<◌, ◌�
 use Rattle.std.specs.Prelude.{slice_get}
 use Rattle.std.proofs.lemmas.Bool.{or_cases}
 use Rattle.std.proofs.lemmas.Option.{slice_get_within}
-use Rattle.wy_value.specs.Datum.{Datum}
+use Rattle.wy_lemmas.proofs.Choices.{both_parts as both, or_left, both_true as two_true, or_right}
+use Rattle.wy_lemmas.proofs.Lists.{get_front}
+use Rattle.wy_lemmas.proofs.Options.{some_is as same_some}
+use Rattle.wy_canon.specs.wy_value.Datum.{Datum}
 use Rattle.wy_types.specs.declared.conjuncts.Signed.{Signed}
 use Rattle.wy_types.specs.declared.conjuncts.Conjunct.{Conjunct}
 use Rattle.wy_types.specs.declared.table.Table.{Table}
@@ -15,16 +18,15 @@ use Rattle.wy_types.specs.Asks.{HasValue}
 use Rattle.wy_types.proofs.RankedLemmas.{has_laws}
 use Rattle.wy_types.proofs.TermLemmas.{any_in-dnf_part}
 use Rattle.wy_types.proofs.AskLemmas.{options_of-value}
-use Rattle.wy_types.proofs.TruthLemmas.{both, two_true}
-use Rattle.wy_closure.specs.declared.clauses.Clause.{Clause}
-use Rattle.wy_closure.specs.Closure.{HaveHeads, IsClosed, IsReached, from_none, by_clause}
-use Rattle.wy_closure.proofs.MarkLemmas.{mark_old}
+use Rattle.wy_graph.specs.declared.closure.clauses.Clause.{Clause}
+use Rattle.wy_graph.specs.closure.Closure.{HaveHeads, IsClosed, IsReached, from_none, by_clause}
+use Rattle.wy_graph.proofs.closure_lemmas.MarkLemmas.{mark_old}
 use Rattle.wy_subtype.specs.declared.reach.Reach.{Reach}
 use Rattle.wy_subtype.specs.Clausal.{shifted, clause, part_clauses, option_clauses, ask_clauses}
 use Rattle.wy_subtype.specs.Known.{options_of, IsKnown}
 use Rattle.wy_subtype.specs.Marks.{mark_at, any_marked, each_marked, met, part_marks, HaveValues, AreSound, AreClosedBy}
 use Rattle.wy_subtype.specs.Numbers.{AreAt, AreAllAt}
-use Rattle.wy_subtype.proofs.MarkLemmas.{or_left, or_right, met-value, part_mark}
+use Rattle.wy_subtype.proofs.MarkLemmas.{met-value, part_mark}
 use Rattle.wy_subtype.proofs.NumberLemmas.{get_within}
 
 -- ---- places
@@ -34,17 +36,9 @@ get_or_back [] ys i x e = inr (i, e)
 get_or_back (y ∷ xs) ys zero x e = inl e
 get_or_back (y ∷ xs) ys (suc i) x e = get_or_back xs ys i x e
 
-get_front : {X : Type 0} (xs ys : List X) (i : ℕ) (x : X) → slice_get xs i ≡ Some x → slice_get (xs ++ ys) i ≡ Some x
-get_front [] ys i x e = absurd cc
-get_front (y ∷ xs) ys zero x e = e
-get_front (y ∷ xs) ys (suc i) x e = get_front xs ys i x e
-
 get_back : {X : Type 0} (xs ys : List X) (i : ℕ) (x : X) → slice_get ys i ≡ Some x → (j : ℕ) × (slice_get (xs ++ ys) j ≡ Some x)
 get_back [] ys i x e = (i, e)
 get_back (y ∷ xs) ys i x e = let r = get_back xs ys i x e in (suc r.0, r.1)
-
-same_some : {X : Type 0} (x y : X) → Some x ≡ Some y → x ≡ y
-same_some x y e = cc
 
 mark_drop : (n : ℕ) (marks : List Bool) (j : ℕ) → mark_at (drop n marks) j ≡ mark_at marks (n + j)
 mark_drop zero marks j = ap (mark_at marks) (let e : j ≡ 0 + j = omega arith in e)

@@ -5,6 +5,9 @@ use Rattle.std.specs.Str.{bytes_eq}
 use Rattle.std.proofs.lemmas.Bool.{eq-eqb}
 use Rattle.std.proofs.lemmas.List.{length_push}
 use Rattle.std.proofs.lemmas.Option.{slice_get_within}
+use Rattle.wy_lemmas.proofs.Choices.{both_true as two_true}
+use Rattle.wy_lemmas.proofs.Lists.{bytes_self, get_front, last_or}
+use Rattle.wy_lemmas.proofs.Options.{some_one as some_is}
 use Rattle.wy_types.specs.declared.conjuncts.Signed.{Signed}
 use Rattle.wy_types.specs.declared.conjuncts.Part.{Part}
 use Rattle.wy_types.specs.declared.conjuncts.Atom.{Atom}
@@ -17,13 +20,11 @@ use Rattle.wy_types.specs.Conjuncts.{same_term, dnf_part, narrow_part}
 use Rattle.wy_types.specs.Same as same
 use Rattle.wy_types.specs.Asks.{few_ways}
 use Rattle.wy_types.specs.Reach.{Reaches, at_first, by_asking, IsNeeded, IsWide}
-use Rattle.wy_types.proofs.TruthLemmas.{two_true}
-use Rattle.wy_types.proofs.AskLemmas.{bytes_self}
 use Rattle.wy_subtype.specs.declared.reach.InternedAll.{InternedAll}
 use Rattle.wy_subtype.specs.declared.reach.Reach.{Reach}
 use Rattle.wy_subtype.specs.Numbers.{AreAt, AreAllAt}
 use Rattle.wy_subtype.specs.Known.{options_of, IsInterned, AreInterned, IsKnown, Grows, IsAdded, asking}
-use Rattle.wy_subtype.proofs.NumberLemmas.{get_front, get_last, some_is, get_within, last_or, keeps_length, at_keeps, all_at_keeps, each_get, each_of_in, some_in, each_push, different_push}
+use Rattle.wy_subtype.proofs.NumberLemmas.{get_last, get_within, keeps_length, at_keeps, all_at_keeps, each_get, each_of_in, some_in, each_push, different_push}
 
 -- ---- a conjunct is the same as itself
 
@@ -76,10 +77,6 @@ not_has (x ∷ xs) c e (inr h) = not_has xs c (by (same.same_conjunct same_term 
 
 -- ---- a conjunct more
 
-pub interned_found : (table : Table) (k : ℕ) (first : List (Signed ℕ)) (old : List (Conjunct ℕ)) (c : Conjunct ℕ) (n : ℕ) → AreDifferent old → EachOf (Reaches table k first) old → slice_get old n ≡ Some c
-    → IsInterned table k first old c (record { conjuncts = old; number = n })
-interned_found table k first old c n d r at = record { keeps = λ m x e. e; at = at; different = d; reached = r }
-
 pub interned_new : (table : Table) (k : ℕ) (first : List (Signed ℕ)) (old : List (Conjunct ℕ)) (c : Conjunct ℕ) → AreDifferent old → EachOf (Reaches table k first) old → Reaches table k first c → same.has_conjunct same_term old c ≡ false
     → IsInterned table k first old c (record { conjuncts = old ++ c ∷ []; number = length old })
 interned_new table k first old c d r new e = record {
@@ -104,12 +101,6 @@ interned_as table k first old c xs ys n m e f i =
 pub needed_reaches : (table : Table) (k : ℕ) (first p : List (Signed ℕ)) → IsNeeded table k first p → EachOf (Reaches table k first) (dnf_part table k p)
 needed_reaches table k first p (inl e) = each_of_in (Reaches table k first) (dnf_part table k p) (λ c h. at_first c (subst (λ (q : List (Signed ℕ)). IsIn c (dnf_part table k q)) e h))
 needed_reaches table k first p (inr n) = each_of_in (Reaches table k first) (dnf_part table k p) (λ d h. by_asking n.0 d p n.1 n.2 h)
-
-pub wide_part : (table : Table) (k : ℕ) (first p : List (Signed ℕ)) → IsNeeded table k first p → narrow_part table k p ≡ false → IsWide table k first
-wide_part table k first p n e = inl (p, n, e)
-
-pub added_found : (table : Table) (k : ℕ) (first : List (Signed ℕ)) (r : Reach) (p : List (Signed ℕ)) (n : ℕ) → IsKnown table k first r → slice_get r.parts n ≡ Some p → IsAdded table k first r p (record { reach = r; number = n })
-added_found table k first r p n known at = record { known = known; grows = record { parts = λ m q e. e; conjuncts = λ m c e. e; asks = refl }; at = at }
 
 pub added_as : (table : Table) (k : ℕ) (first : List (Signed ℕ)) (old : Reach) (p : List (Signed ℕ)) (ps qs : List (List (Signed ℕ))) (hs gs : List (List ℕ)) (cs : List (Conjunct ℕ)) (made : List (List (List (List ℕ)))) (n m : ℕ) → ps ≡ qs → hs ≡ gs → n ≡ m
     → IsAdded table k first old p (record { reach = record { parts = ps; heads = hs; conjuncts = cs; asks = made }; number = n }) → IsAdded table k first old p (record { reach = record { parts = qs; heads = gs; conjuncts = cs; asks = made }; number = m })

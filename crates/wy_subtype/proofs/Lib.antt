@@ -7,3 +7,5 @@ pub mod WayLemmas
 pub mod ValuedLemmas
 pub mod ClausalLemmas
 pub mod RefusalLemmas
+-- passed on to the crates above
+pub use Rattle.wy_types.proofs as wy_types_proofs

@@ -1,23 +1,15 @@
 -- Marks: what they meet, and a mark more.
-use Rattle.std.proofs.Common.{◌≡◌, ℕ, zero, suc, List, [], ◌∷◌, Bool, true, false, ◌||◌, Some, refl, ap, inl, inr, ◌⊎◌}
+use Rattle.std.proofs.Common.{◌≡◌, ℕ, zero, suc, List, [], ◌∷◌, Bool, true, Some, refl, ap, inl, inr, ◌⊎◌}
 use Rattle.std.specs.Prelude.{slice_get}
 use Rattle.std.proofs.lemmas.Bool.{or_cases}
+use Rattle.wy_lemmas.proofs.Choices.{both_parts as both, or_left, both_true as two_true, or_right}
+use Rattle.wy_lemmas.proofs.Options.{some_one as some_is}
 use Rattle.wy_types.specs.declared.conjuncts.Signed.{Signed}
 use Rattle.wy_types.specs.declared.table.Table.{Table}
 use Rattle.wy_types.specs.Claims.{SomeOf, EachOf}
 use Rattle.wy_types.specs.Asks.{HasValue, IsMet}
-use Rattle.wy_types.proofs.TruthLemmas.{both, two_true}
 use Rattle.wy_subtype.specs.Numbers.{AreAt, AreEachAt, AreAllAt}
 use Rattle.wy_subtype.specs.Marks.{mark_at, any_marked, each_marked, met, part_marks, HaveValues}
-use Rattle.wy_subtype.proofs.NumberLemmas.{some_is}
-
-pub or_left : (a b : Bool) → a ≡ true → (a || b) ≡ true
-or_left true b e = refl
-or_left false b e = absurd cc
-
-pub or_right : (a b : Bool) → b ≡ true → (a || b) ≡ true
-or_right true b e = refl
-or_right false b e = e
 
 -- ---- what is met by marks is met by values
 

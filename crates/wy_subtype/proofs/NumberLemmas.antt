@@ -1,48 +1,22 @@
 -- Things by number.
-use Rattle.std.proofs.Common.{◌≡◌, ℕ, zero, suc, ◌<◌, ◌≤◌, ◌+◌, List, [], ◌∷◌, ◌++◌, length, take, get_or, true, Option, Some, refl, sym, ap, subst, ◌∙◌, arith, inl, inr, ◌⊎◌}
+use Rattle.std.proofs.Common.{◌≡◌, ℕ, zero, suc, ◌<◌, ◌≤◌, ◌+◌, List, [], ◌∷◌, ◌++◌, length, take, get_or, Some, refl, sym, subst, ◌∙◌, arith, inl, inr, ◌⊎◌}
 use Rattle.std.specs.Prelude.{slice_get}
 use Rattle.std.proofs.lemmas.List.{take_more}
 use Rattle.std.proofs.lemmas.Option.{slice_get_within}
-use Rattle.wy_types.specs.declared.conjuncts.Signed.{Signed}
-use Rattle.wy_types.specs.declared.conjuncts.Conjunct.{Conjunct}
+use Rattle.wy_lemmas.proofs.Options.{some_one as some_is}
 use Rattle.wy_types.specs.Claims.{SomeOf, EachOf, IsIn, AreDifferent}
-use Rattle.wy_types.specs.Conjuncts.{same_term}
-use Rattle.wy_types.specs.Same as same
-use Rattle.wy_types.specs.NodeLaws.{same_terms_are, same_conjunct_is}
-use Rattle.wy_types.proofs.TermLemmas.{same_term_is}
 use Rattle.wy_subtype.specs.Numbers.{Keeps, AreAt, AreEachAt, AreAllAt}
 
-pub same_terms_is : (xs ys : List (Signed ℕ)) → same.same_terms same_term xs ys ≡ true → xs ≡ ys
-same_terms_is xs ys e = same_terms_are same_term same_term_is xs ys e
-
-pub same_conjunct_number : (x y : Conjunct ℕ) → same.same_conjunct same_term x y ≡ true → x ≡ y
-same_conjunct_number x y e = same_conjunct_is same_term same_term_is x y e
-
 -- ---- places
-
-pub get_front : {X : Type 0} (xs ys : List X) (n : ℕ) (x : X) → slice_get xs n ≡ Some x → slice_get (xs ++ ys) n ≡ Some x
-get_front [] ys n x e = absurd cc
-get_front (y ∷ xs) ys zero x e = e
-get_front (y ∷ xs) ys (suc n) x e = get_front xs ys n x e
 
 pub get_last : {X : Type 0} (xs : List X) (x : X) → slice_get (xs ++ x ∷ []) (length xs) ≡ Some x
 get_last [] x = refl
 get_last (y ∷ xs) x = get_last xs x
 
-pub some_is : {X : Type 0} (o : Option X) (x y : X) → o ≡ Some x → o ≡ Some y → x ≡ y
-some_is o x y e f = cc
-
 pub get_within : {X : Type 0} (xs : List X) (j : ℕ) → j < length xs → (x : X) × (slice_get xs j ≡ Some x)
 get_within [] j lt = absurd (omega (arith, lt))
 get_within (x ∷ xs) zero lt = (x, refl)
 get_within (x ∷ xs) (suc j) lt = get_within xs j (omega (arith, lt))
-
--- the last, or one of those before
-pub last_or : {X : Type 0} (xs : List X) (x y : X) (n : ℕ) → slice_get (xs ++ x ∷ []) n ≡ Some y → (slice_get xs n ≡ Some y) ⊎ ((n ≡ length xs) × (x ≡ y))
-last_or [] x y zero e = inr (refl, some_is (Some x) x y refl e)
-last_or [] x y (suc n) e = absurd cc
-last_or (z ∷ xs) x y zero e = inl e
-last_or (z ∷ xs) x y (suc n) e = elim (last_or xs x y n e) [ inl a ↦ inl a | inr b ↦ inr (ap suc b.0, b.1) ]
 
 pub place_in : {X : Type 0} (xs : List X) (n : ℕ) (x : X) → slice_get xs n ≡ Some x → IsIn x xs
 place_in [] n x e = absurd cc

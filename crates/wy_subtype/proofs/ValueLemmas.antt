@@ -3,8 +3,9 @@ use Rattle.std.proofs.Common.{◌≡◌, ℕ, ◌<◌, List, [], ◌∷◌, leng
 use Rattle.std.specs.Prelude.{slice_get}
 use Rattle.std.proofs.lemmas.Bool.{or_cases}
 use Rattle.std.proofs.lemmas.Option.{slice_get_within}
-use Rattle.wy_value.specs.Datum.{Datum, Data, Fields, no_items, item, no_fields, field}
-use Rattle.wy_value.specs.Datum as datum
+use Rattle.wy_lemmas.proofs.Choices.{both_parts as both, or_left, or_right}
+use Rattle.wy_canon.specs.wy_value.Datum.{Datum, Data, Fields, no_items, item, no_fields, field}
+use Rattle.wy_canon.specs.wy_value.Datum as datum
 use Rattle.wy_types.specs.declared.conjuncts.Signed.{Signed}
 use Rattle.wy_types.specs.declared.conjuncts.Conjunct.{Conjunct}
 use Rattle.wy_types.specs.declared.table.Table.{Table}
@@ -25,11 +26,7 @@ use Rattle.wy_subtype.specs.Numbers.{AreAt}
 use Rattle.wy_subtype.specs.Marks.{mark_at, any_marked, met, part_marks, HaveValues, AreSound, AreClosedBy}
 use Rattle.wy_subtype.specs.Known.{options_of, IsKnown, IsReach}
 use Rattle.wy_subtype.proofs.NumberLemmas.{get_within}
-use Rattle.wy_subtype.proofs.MarkLemmas.{or_left, or_right, met-at, IsMarked, IsPart, all_are_parts, part_mark}
-
-both : (a b : Bool) → (a && b) ≡ true → (a ≡ true) × (b ≡ true)
-both true b e = (refl, e)
-both false b e = absurd cc
+use Rattle.wy_subtype.proofs.MarkLemmas.{met-at, IsMarked, IsPart, all_are_parts, part_mark}
 
 -- a marked conjunct among those of a part
 head_value : (table : Table) (k : ℕ) (conjuncts : List (Conjunct ℕ)) (marks : List Bool) → AreSound table k conjuncts marks → (h : List ℕ) (cs : List (Conjunct ℕ)) → AreAt conjuncts h cs → any_marked marks h ≡ true → (d : Datum) × (any_in (shape_of table k d) cs ≡ true)

@@ -2,7 +2,8 @@
 use Rattle.std.proofs.Common.{◌≡◌, ℕ, ◌<◌, List, [], ◌∷◌, ◌++◌, length, Bool, true, false, cond, ◌||◌, inl, inr, Option, Some, None, refl, sym, ap, subst, ◌∙◌, arith}
 use Rattle.std.specs.Prelude.{slice_get}
 use Rattle.std.specs.Option.{option_to_list}
-use Rattle.wy_value.specs.Datum.{Datum}
+use Rattle.wy_lemmas.proofs.Choices.{or_left, both_true as two_true}
+use Rattle.wy_canon.specs.wy_value.Datum.{Datum}
 use Rattle.wy_types.specs.declared.conjuncts.Signed.{Signed}
 use Rattle.wy_types.specs.declared.conjuncts.Conjunct.{Conjunct}
 use Rattle.wy_types.specs.declared.table.Table.{Table}
@@ -22,12 +23,11 @@ use Rattle.wy_types.specs.declared.conjuncts.Atom.TheVariants as atom
 use Rattle.wy_types.specs.Claims.{SomeOf}
 use Rattle.wy_types.specs.Asks.{HasValue, alone, all_alone, ways_from}
 use Rattle.wy_types.specs.Asks as asking
-use Rattle.wy_types.proofs.TruthLemmas.{both, two_true}
 use Rattle.wy_subtype.specs.Numbers.{AreEachAt, AreAllAt}
 use Rattle.wy_subtype.specs.Marks.{any_marked, each_marked, HaveValues}
 use Rattle.wy_subtype.specs.Valued.{IsInhabited, AreInhabited, atom_ways, ways_of, all_ways, held_ways, held_by, held_of, held_all}
 use Rattle.wy_subtype.proofs.NumberLemmas.{get_within}
-use Rattle.wy_subtype.proofs.MarkLemmas.{or_left, each_marked-value}
+use Rattle.wy_subtype.proofs.MarkLemmas.{each_marked-value}
 use Rattle.wy_subtype.proofs.ValueLemmas.{conjunct_held, value_found, held_sound}
 
 module _ (table : Table) (k : ℕ) (ranked : (rank : ℕ → ℕ) × IsRanked table rank k) (first : List (Signed ℕ)) (r : Reach) (b : ℕ) (reach : IsReach table k first r b) (marks : List Bool) (sound : AreSound table k r.conjuncts marks)

@@ -1,6 +1,6 @@
 -- What parts and conjuncts ask, as clauses: a part has a value where one of its conjuncts has, and a conjunct where for one of its options each list has a part that has. Parts come first, and conjuncts behind them.
 use Rattle.std.specs.Prelude.{ℕ, suc, ◌+◌, List, [], ◌∷◌, ◌++◌}
-use Rattle.wy_closure.specs.declared.clauses.Clause.{Clause}
+use Rattle.wy_graph.specs.declared.closure.clauses.Clause.{Clause}
 
 -- the numbers, each greater by the base
 abbrev pub shifted : ℕ → List ℕ → List ℕ

@@ -1,13 +1,13 @@
 -- Marks of what has a value.
 use Rattle.std.specs.Prelude.{◌≡◌, ℕ, ◌<◌, List, [], ◌∷◌, Bool, true, false, ◌&&◌, ◌||◌, Some, slice_get}
-use Rattle.wy_value.specs.Datum.{Datum}
+use Rattle.wy_canon.specs.wy_value.Datum.{Datum}
 use Rattle.wy_types.specs.declared.conjuncts.Signed.{Signed}
 use Rattle.wy_types.specs.declared.conjuncts.Conjunct.{Conjunct}
 use Rattle.wy_types.specs.declared.table.Table.{Table}
 use Rattle.wy_types.specs.Shape.{conjunct_in}
 use Rattle.wy_types.specs.Membership.{shape_of}
 use Rattle.wy_types.specs.Asks.{HasValue}
-pub use Rattle.wy_closure.specs.Marks.{mark_at, any_marked, each_marked}
+pub use Rattle.wy_graph.specs.closure.Marks.{mark_at, any_marked, each_marked}
 
 -- one option is met by the marks
 abbrev pub met : List Bool → List (List (List ℕ)) → Bool

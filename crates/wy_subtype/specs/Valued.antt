@@ -1,7 +1,7 @@
 -- Which conjuncts and which ways of records have a value.
 use Rattle.std.specs.Prelude.{◌≡◌, ℕ, List, [], ◌∷◌, ◌++◌, Bool, true, false, cond, ◌⊎◌, Option, Some, None, slice_get}
 use Rattle.std.specs.Option.{option_to_list}
-use Rattle.wy_value.specs.Datum.{Datum}
+use Rattle.wy_canon.specs.wy_value.Datum.{Datum}
 use Rattle.wy_types.specs.declared.conjuncts.Part.{Part}
 use Rattle.wy_types.specs.declared.conjuncts.Atom.{Atom}
 use Rattle.wy_types.specs.declared.conjuncts.Atom.TheVariants as atom

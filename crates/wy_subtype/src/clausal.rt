@@ -4,7 +4,7 @@ ghost use Rattle.wy_subtype.specs.Clausal as clausal;
 
 use crate::reach::Reach;
 use std::alloc::{AllocError, Global};
-use wy_closure::Clause;
+use wy_graph::closure::Clause;
 use wy_items::Items;
 
 fn small(number: usize) -> Result<u32, AllocError>

@@ -5,7 +5,7 @@ ghost use Rattle.wy_subtype.specs.Known.{WideOnly};
 ghost use Rattle.wy_types.specs.Membership.{member};
 ghost use Rattle.wy_types.specs.Ranked.{IsRanked};
 ghost use Rattle.wy_types.specs.Reach.{IsWide, outside};
-ghost use Rattle.wy_value.specs.Datum.{Datum};
+ghost use Rattle.wy_canon.specs.wy_value.Datum.{Datum};
 
 use crate::values::has_value;
 use std::alloc::{AllocError, Global};

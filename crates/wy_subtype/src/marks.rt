@@ -3,7 +3,7 @@ ghost use Rattle.std.specs.Prelude.{◌≡◌, IfOk, drop};
 ghost use Rattle.wy_subtype.specs.Marks as marking;
 
 use std::alloc::{AllocError, Global};
-use wy_closure::any_marked;
+use wy_graph::closure::any_marked;
 use wy_items::Items;
 
 /// The parts with a marked conjunct.

@@ -5,7 +5,7 @@ ghost use Rattle.wy_subtype.specs.Known.{WideOnly};
 ghost use Rattle.wy_types.specs.Names.{Up, types_of};
 ghost use Rattle.wy_types.specs.Questions.{IsOver, IsWideAbout, IsWideWithin};
 ghost use Rattle.wy_types.specs.Recursion.{RecurThroughParts};
-ghost use Rattle.wy_value.specs.Datum.{Datum};
+ghost use Rattle.wy_canon.specs.wy_value.Datum.{Datum};
 
 use crate::inclusion::{is_inhabited, is_within};
 use std::alloc::Global;

@@ -13,8 +13,8 @@ use crate::reach::{Added, Reach, reach_of};
 use crate::values::values;
 use std::alloc::{AllocError, Global};
 use wy_canon::{TypeFault, copy_conjunct, copy_fields, dnf_part};
-use wy_closure::{each_marked, mark_at};
 use wy_data::Name;
+use wy_graph::closure::{each_marked, mark_at};
 use wy_items::{Items, at};
 use wy_types::{Atom, Conjunct, Part, Signed, Table};
 

@@ -7,14 +7,14 @@ ghost use Rattle.wy_types.specs.Membership.{member};
 ghost use Rattle.wy_types.specs.Ranked.{IsRanked};
 ghost use Rattle.wy_types.specs.Reach.{IsWide};
 ghost use Rattle.wy_types.specs.Shape.{part_in};
-ghost use Rattle.wy_value.specs.Datum.{Datum};
+ghost use Rattle.wy_canon.specs.wy_value.Datum.{Datum};
 
 use crate::clausal::{clauses_of, part_count, total};
 use crate::marks::{marks_from, part_marks};
 use crate::reach::{Added, Reach, reach_of};
 use std::alloc::{AllocError, Global};
 use wy_canon::TypeFault;
-use wy_closure::{close, mark_at};
+use wy_graph::closure::{close, mark_at};
 use wy_items::Items;
 use wy_types::{Signed, Table};
 

@@ -1,8 +1,9 @@
 -- What was copied already, as the list of nodes grows.
-use Rattle.std.proofs.Common.{◌≡◌, ◌<◌, ◌≤◌, ◌+◌, ℕ, zero, suc, List, [], ◌∷◌, ◌++◌, All, length, get_or, take, Result, Ok, Err, Bool, true, false, cond, eqb, Option, Some, None, refl, sym, ap, ◌∙◌, subst, arith}
+use Rattle.std.proofs.Common.{◌≡◌, ◌<◌, ◌≤◌, ◌+◌, ℕ, zero, suc, List, [], ◌∷◌, ◌++◌, All, length, get_or, take, Result, Ok, Err, Bool, true, false, cond, eqb, Option, Some, refl, sym, ap, ◌∙◌, subst, arith}
 use Rattle.std.proofs.lemmas.Bool.{eqb-true}
 use Rattle.std.specs.Prelude.{IfOk, OnOk}
 use Rattle.std.proofs.lemmas.List.{take_more}
+use Rattle.wy_value.proofs.wy_lemmas_proofs.Options.{some_number_is as same_number}
 use Rattle.wy_term.specs.Term.{Symbol, Term, Of, Parts, part}
 use Rattle.wy_term.specs.Nodes.{Plain, of, grown, node_at, tree_at, parts_at}
 use Rattle.wy_term.specs.Numbers.{IsAt, Keeps}
@@ -28,9 +29,6 @@ AreCopied_kept from old new f k copied = record {
       (m.0, record { within = omega (arith, k.grows, is.within); is = k.trees r is.within ∙ is.is });
 }
 
-same_number : (a b : ℕ) → Some a ≡ Some b → a ≡ b
-same_number a b e = cc
-
 pub AreCopied_put : (from to : List Plain) (f g : ℕ → Option ℕ) (k r : ℕ) → k < length from → IsAt to r (tree_at from k) → ((q : ℕ) → g q ≡ cond (eqb k q) (Some r) (f q)) → AreCopied from to f → AreCopied from to g
 AreCopied_put from to f g k r lt at puts copied = record { copied = λ q s e. either q s (eqb k q) refl (sym (puts q) ∙ e) }
   where
@@ -40,9 +38,6 @@ AreCopied_put from to f g k r lt at puts copied = record { copied = λ q s e. ei
         let out : r ≡ s = same_number r s e in
         subst (λ (p : ℕ). (p < length from) × IsAt to s (tree_at from p)) same (subst (λ (p : ℕ). (k < length from) × IsAt to p (tree_at from k)) out (lt, at))
     either q s false t e = copied.copied q s e
-
-pub none_copied : (from to : List Plain) (f : ℕ → Option ℕ) → ((q : ℕ) → f q ≡ None) → AreCopied from to f
-none_copied from to f none = record { copied = λ q r e. let no : None ≡ Some r = sym (none q) ∙ e in absurd cc }
 
 pub copied_parts : (from to : List Plain) (f : ℕ → Option ℕ) (ks rs : List ℕ) → AreCopied from to f → Looked f ks rs → parts_at (tree_at to) rs ≡ parts_at (tree_at from) ks
 copied_parts from to f [] [] copied looked = refl

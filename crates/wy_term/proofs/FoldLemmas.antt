@@ -55,10 +55,6 @@ nth_some at [] k d lt = absurd (omega arith)
 nth_some at (j ∷ ks) zero d lt = refl
 nth_some at (j ∷ ks) (suc k) d lt = nth_some at ks k d (omega arith)
 
-pub element_below : (at : ℕ → Term) (ks : List ℕ) (z : ℤ) → z <ℤ pos 0 → leaf null ≡ part_at (parts_at at ks) z
-element_below at ks (pos k) lt = absurd (omega (arith, ints))
-element_below at ks (negsuc k) lt = refl
-
 pub element_above : (at : ℕ → Term) (ks : List ℕ) (z : ℤ) → pos (length ks) ≤ℤ z → leaf null ≡ part_at (parts_at at ks) z
 element_above at ks (pos k) le = nth_none at ks k (omega (arith, ints))
 element_above at ks (negsuc k) le = absurd (omega (arith, ints))

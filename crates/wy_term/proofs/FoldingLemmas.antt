@@ -5,6 +5,9 @@ use Rattle.std.specs.Prelude.{bytes_eq}
 use Rattle.std.specs.Ordering.{int_eq}
 use Rattle.std.specs.Bool.{beq}
 use Rattle.std.proofs.lemmas.Bool.Decides.{Decides-int_eq}
+use Rattle.wy_value.proofs.wy_lemmas_proofs.Choices.{bits_self as beq_self, or_not as or_false}
+use Rattle.wy_value.proofs.wy_lemmas_proofs.Lists.{bytes_self}
+use Rattle.wy_value.proofs.wy_lemmas_proofs.Options.{some_number}
 use Rattle.wy_value.specs.Datum.{Datum, Null, Truth, Whole, Array, Record, Data, no_items, item, Fields, no_fields}
 use Rattle.wy_value.specs.Datum as datum
 use Rattle.wy_term.specs.Term as term
@@ -16,13 +19,10 @@ use Rattle.wy_term.specs.Same.{same_names, same_kind, same_term}
 use Rattle.wy_term.specs.Rewriting.{as_number, as_int, as_bool, as_array, as_denied, is_truth, as_record, field_part, fold_field, names_for, kind_given, fold_kind, as_constant, as_whole, fold_bool, fold_apart, fold_equal, is_true, is_false, True, False, decided, fits, fitted, number_or, on_one, on_two, fold_num, count, fold_len, nth_part, part_at, fold_get, fold_order, fold_at_most, fold_not, has_false, has_true, without_true, without_false, joined, fold_and, fold_or, rewritten}
 use Rattle.wy_term.specs.Folding.{fold_range}
 use Rattle.wy_term.specs.Sorts.{Agree, sort_in, FoldingKeepsMeaning}
-use Rattle.wy_term.proofs.SameLemmas.{terms_are, bytes_self}
+use Rattle.wy_term.proofs.SameLemmas.{terms_are}
 
-abbrev some_kind : DataKind → Option DataKind
+abbrev pub some_kind : DataKind → Option DataKind
 some_kind k = Some k
-
-abbrev some_number : ℤ → Option ℤ
-some_number z = Some z
 
 abbrev some_datum : Datum → Option Datum
 some_datum d = Some d
@@ -88,7 +88,7 @@ get_kept names v s (Some ps) (Some k) e g = absurd cc
 
 -- ---- formulas
 
-abbrev truth_of : Names → Term → Bool
+abbrev pub truth_of : Names → Term → Bool
 truth_of names t = (sense names t).truth
 
 decided_is : (names : Names) (b : Bool) → truth_of names (decided b) ≡ b
@@ -133,10 +133,6 @@ is_false_fails names f e = absurd cc
 and_true : (b : Bool) → b ≡ (b && true)
 and_true true = refl
 and_true false = refl
-
-or_false : (b : Bool) → b ≡ (b || false)
-or_false true = refl
-or_false false = refl
 
 and_false : (b : Bool) → false ≡ (b && false)
 and_false true = refl
@@ -287,10 +283,6 @@ kind_kept names kind v (Some g) e = absurd cc
 
 int_self : (z : ℤ) → int_eq z z ≡ true
 int_self z = (Decides-int_eq z z).1 refl
-
-beq_self : (b : Bool) → beq b b ≡ true
-beq_self true = refl
-beq_self false = refl
 
 mutual
   datum_self : (d : Datum) → same_datum d d ≡ true

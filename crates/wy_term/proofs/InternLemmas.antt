@@ -3,6 +3,7 @@ use Rattle.std.proofs.Common.{◌≡◌, ℕ, zero, suc, ◌+◌, ◌<◌, List,
 use Rattle.std.specs.List.{list_any, position_or_len}
 use Rattle.std.proofs.lemmas.List.{get_or_append_left, map-append, append-nil}
 use Rattle.std.proofs.Math.Seq.{get_or-append_seam}
+use Rattle.wy_value.proofs.wy_lemmas_proofs.Choices.{or_false}
 use Rattle.wy_term.specs.contracts.node.NodePartialEq.TheImpl.{eq-value}
 use Rattle.wy_term.specs.declared.node.Node.{Node}
 use Rattle.wy_term.specs.Term as term
@@ -12,10 +13,6 @@ use Rattle.wy_term.proofs.NodeEqLemmas.{nodes_are, nodes_compare}
 
 abbrev test_of : Node → Node → Bool
 test_of n = λ m. eq-value.it n m
-
-or_false : (a b : Bool) → (a || b) ≡ false → (a ≡ false) × (b ≡ false)
-or_false true b e = absurd cc
-or_false false b e = (refl, e)
 
 behind : (p : Plain) (ps : List Plain) (k : ℕ) → node_at (p ∷ ps) (1 + k) ≡ node_at ps k
 behind p ps k = let e : 1 + k ≡ suc k = omega arith in ap (node_at (p ∷ ps)) e

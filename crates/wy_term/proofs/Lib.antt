@@ -7,3 +7,7 @@ pub mod FoldingLemmas
 pub mod FoldLemmas
 pub mod CopyingLemmas
 pub mod ReplacingLemmas
+pub mod SharedLemmas
+-- passed on to the crates above
+pub use Rattle.wy_data.proofs as wy_data_proofs
+pub use Rattle.wy_value.proofs.wy_lemmas_proofs as wy_lemmas_proofs

@@ -2,6 +2,8 @@
 use Rattle.std.proofs.Common.{◌≡◌, ℕ, List, [], ◌∷◌, Bool, true, false, eqb, ◌&&◌, refl, sym, ap, map, ◌∙◌}
 use lib.Pointwise.{pointwise}
 use Rattle.std.specs.Prelude.{bytes_eq}
+use Rattle.wy_value.proofs.wy_lemmas_proofs.Choices.{both_parts as both}
+use Rattle.wy_value.proofs.wy_lemmas_proofs.Lists.{bytes_self, bytes_are}
 use Rattle.wy_term.specs.contracts.node.NodePartialEq.TheImpl.{eq-value}
 use Rattle.wy_term.specs.contracts.node.KindPartialEq.TheImpl as kind_eq
 use Rattle.wy_term.specs.declared.node.Node.{Node}
@@ -11,7 +13,7 @@ use Rattle.wy_term.specs.declared.node.Kind.TheVariants as kind
 use Rattle.wy_term.specs.Term.{Symbol}
 use Rattle.wy_term.specs.Same.{same_names, same_kind, same_symbol}
 use Rattle.wy_term.specs.Nodes.{Plain, of, plain_kind, plain, same_plain}
-use Rattle.wy_term.proofs.SameLemmas.{both, bytes_are, bytes_self, symbols_are, symbols_self}
+use Rattle.wy_term.proofs.SameLemmas.{symbols_are, symbols_self}
 
 -- ---- tests in another order
 
@@ -52,7 +54,7 @@ crossed false b c d = refl
 
 -- ---- lists and kinds
 
-names_by_pairs : (ns ms : List (List ℕ)) → pointwise {A = List ℕ} {B = List ℕ} bytes_eq ns ms ≡ same_names ns ms
+pub names_by_pairs : (ns ms : List (List ℕ)) → pointwise {A = List ℕ} {B = List ℕ} bytes_eq ns ms ≡ same_names ns ms
 names_by_pairs [] [] = refl
 names_by_pairs [] (m ∷ ms) = refl
 names_by_pairs (n ∷ ns) [] = refl

@@ -1,13 +1,13 @@
 -- The trees that the numbers of a list of nodes name, and how they stand when a node is added.
-use Rattle.std.proofs.Common.{◌≡◌, ℕ, zero, suc, ◌+◌, ◌<◌, List, [], ◌∷◌, ◌++◌, All, get_or, ◌≤◌, Bool, true, false, eqb, take, drop, length, length-take, Result, Ok, Err, sym, ap, ◌∙◌, subst, refl, arith, length-append, pos}
+use Rattle.std.proofs.Common.{◌≡◌, ℕ, zero, suc, ◌+◌, ◌<◌, List, [], ◌∷◌, ◌++◌, All, get_or, ◌≤◌, Bool, true, false, eqb, take, drop, length, length-take, sym, ap, ◌∙◌, subst, refl, arith, length-append, pos}
 use Rattle.std.proofs.lemmas.List.{get_or_append_left}
 use Rattle.std.proofs.Math.Seq.{get_or-append_seam}
 use Rattle.std.proofs.Math.ListN.{take-append-drop}
-use Rattle.std.specs.Prelude.{IfOk}
 use Rattle.std.proofs.lemmas.Bool.{eqb-true}
+use Rattle.wy_value.proofs.wy_lemmas_proofs.Choices.{eqb_itself as eqb_self}
 use Rattle.wy_term.specs.Term as term
 use Rattle.wy_term.specs.Same.{same_term}
-use Rattle.wy_term.proofs.SameLemmas.{terms_are, terms_self, eqb_self}
+use Rattle.wy_term.proofs.SameLemmas.{terms_are, terms_self}
 use Rattle.wy_term.specs.Term.{Symbol, Term, Of, Parts, part, Number}
 use Rattle.wy_term.specs.Nodes.{Plain, of, HasPartsBelow, AreGrounded, AreNodes, Extends, Adds, node_at, pick, parts_at, grown, trees_after, tree_at}
 
@@ -119,13 +119,13 @@ tree_at-added old new n t are below adds =
 
 -- ---- one number for each tree
 
-of_same : (a b : Symbol) (ps qs : Parts) → Of a ps ≡ Of b qs → (a ≡ b) × (ps ≡ qs)
+pub of_same : (a b : Symbol) (ps qs : Parts) → Of a ps ≡ Of b qs → (a ≡ b) × (ps ≡ qs)
 of_same a b ps qs e = (cc, cc)
 
-part_same : (s t : Term) (ps qs : Parts) → part s ps ≡ part t qs → (s ≡ t) × (ps ≡ qs)
+pub part_same : (s t : Term) (ps qs : Parts) → part s ps ≡ part t qs → (s ≡ t) × (ps ≡ qs)
 part_same s t ps qs e = (cc, cc)
 
-made_same : (a b : Symbol) (ks js : List ℕ) → a ≡ b → ks ≡ js → of a ks ≡ of b js
+pub made_same : (a b : Symbol) (ks js : List ℕ) → a ≡ b → ks ≡ js → of a ks ≡ of b js
 made_same a b ks js e f = cc
 
 -- where the trees of smaller numbers have one number each, so do lists of them
@@ -207,10 +207,6 @@ interned seen inside new n t same are below adds =
 pub kept_inside : (seen inside new : List Plain) → seen ≡ inside → Extends inside new → (t : ℕ) → t < length seen → tree_at new t ≡ tree_at seen t
 kept_inside seen inside new same extends t lt =
     tree_at-older inside new extends t (subst (λ (ns : List Plain). t < length ns) same lt) ∙ ap (λ (ns : List Plain). tree_at ns t) (sym same)
-
-pub interned_if : (seen inside new : List Plain) (n : Plain) {E : Type 0} (r : Result ℕ E) → seen ≡ inside → AreNodes inside → HasPartsBelow (length seen) n → IfOk r (Adds inside new n) → IfOk r (λ t. tree_at new t ≡ grown (tree_at seen) n)
-interned_if seen inside new n (Ok t) same are below adds = interned seen inside new n t same are below adds
-interned_if seen inside new n (Err e) same are below adds = tt
 
 pub kept_cut : (seen inside new : List Plain) (m n : ℕ) → seen ≡ inside → n ≡ m → m ≤ length seen → new ≡ take n inside → (t : ℕ) → t < m → tree_at new t ≡ tree_at seen t
 kept_cut seen inside new m n same count le e t lt =

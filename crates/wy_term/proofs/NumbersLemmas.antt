@@ -1,15 +1,10 @@
 -- What numbers name as a list of nodes grows.
-use Rattle.std.proofs.Common.{◌≡◌, ◌<◌, ◌≤◌, ℕ, suc, List, [], ◌∷◌, ◌++◌, All, length, take, Result, Ok, Err, refl, sym, ap, ◌∙◌, arith, append_assoc, length-append}
-use Rattle.std.proofs.lemmas.List.{append-nil}
-use Rattle.std.proofs.Math.Seq.{take-append_seam}
+use Rattle.std.proofs.Common.{◌≡◌, ◌<◌, ◌≤◌, ℕ, suc, List, [], ◌∷◌, ◌++◌, All, length, Result, Ok, Err, refl, sym, ap, ◌∙◌, arith, append_assoc, length-append}
 use Rattle.std.specs.Prelude.{IfOk}
 use Rattle.wy_term.specs.Term.{Term, Of, Parts}
 use Rattle.wy_term.specs.Nodes.{Plain, HasPartsBelow, AreNodes, Extends, Adds, grown, parts_at, tree_at}
 use Rattle.wy_term.specs.Numbers.{IsAt, Keeps}
 use Rattle.wy_term.proofs.NodesLemmas.{interned, kept_inside, length-extends}
-
-pub keeps_all : (ns : List Plain) → Keeps ns ns
-keeps_all ns = record { grows = omega arith; trees = λ t lt. refl; extends = ([], sym (append-nil ns)) }
 
 pub keeps_on : (a b c : List Plain) → Keeps a b → Keeps b c → Keeps a c
 keeps_on a b c k l = record {
@@ -21,17 +16,9 @@ keeps_on a b c k l = record {
 pub IsAt_kept : (old new : List Plain) (t : ℕ) (tree : Term) → Keeps old new → IsAt old t tree → IsAt new t tree
 IsAt_kept old new t tree k at = record { within = omega (arith, k.grows, at.within); is = k.trees t at.within ∙ at.is }
 
-pub below_kept : (old new : List Plain) (ks : List ℕ) → Keeps old new → All (λ k. k < length old) ks → All (λ k. k < length new) ks
-below_kept old new ks k below i d lt = let here = below i d lt in omega (arith, k.grows, here)
-
 pub parts_kept : (old new : List Plain) (ks : List ℕ) → Keeps old new → All (λ k. k < length old) ks → parts_at (tree_at new) ks ≡ parts_at (tree_at old) ks
 parts_kept old new [] k below = refl
 parts_kept old new (j ∷ ks) k below = rw (k.trees j (below 0 j (omega arith)), parts_kept old new ks k (λ i d lt. below (suc i) d (omega arith))) refl
-
--- the old nodes are those in front
-pub old_in_front : (old new : List Plain) → Extends old new → take (length old) new ≡ old
-old_in_front old new extends =
-    ap (take (length old)) extends.1 ∙ take-append_seam old extends.0
 
 -- ---- of a value whose nodes are known to be those inside
 

@@ -5,14 +5,14 @@ use Rattle.std.proofs.lemmas.Bool.{eqb-true}
 use Rattle.std.proofs.lemmas.List.{get_or_append_left}
 use Rattle.std.proofs.Math.Seq.{get_or-append_seam}
 use Rattle.std.specs.Prelude.{IfOk, OnOk, option_to_list, unwrap_or}
-use Rattle.wy_term.specs.declared.node.Quantifier.{Quantifier}
-use Rattle.wy_term.specs.Term.{Symbol, Term, Of, Parts, no_parts, part, leaf, Number}
+use Rattle.wy_value.proofs.wy_lemmas_proofs.Options.{some_number_is as same_number}
+use Rattle.wy_term.specs.Term.{Symbol, Term, Of, Parts, part, leaf, Number}
 use Rattle.wy_term.specs.Term as term
 use Rattle.wy_term.specs.Nodes.{Plain, of, grown, tree_at, parts_at}
-use Rattle.wy_term.specs.Rewriting.{rewritten, as_number}
-use Rattle.wy_term.specs.Folding.{found, found_or, hidden, instances, quantified, span_of, parts_of, remade, replaced, replacers}
+use Rattle.wy_term.specs.Rewriting.{rewritten}
+use Rattle.wy_term.specs.Folding.{found, hidden, instances, parts_of, remade, replaced, replacers}
 use Rattle.wy_term.specs.Numbers.{IsAt, Keeps}
-use Rattle.wy_term.specs.ReplacingView.{seen_pairs, AreBelow, image_at, AreMade, names_one, IsName, IsOther, bound_by}
+use Rattle.wy_term.specs.ReplacingView.{seen_pairs, AreBelow, image_at, AreMade, names_one, IsOther}
 use Rattle.wy_term.specs.Copying.{Looked}
 use Rattle.wy_term.proofs.NumbersLemmas.{IsAt_kept, parts_kept}
 use Rattle.wy_term.proofs.FoldLemmas.{followed, followed_push, followed_none}
@@ -46,9 +46,6 @@ AreMade_kept old new ps f k below made = record {
       );
 }
 
-same_number : (a b : ℕ) → Some a ≡ Some b → a ≡ b
-same_number a b e = cc
-
 AreMade_put : (nodes : List Plain) (ps : List (ℕ × ℕ)) (f g : ℕ → Option ℕ) (k r : ℕ) → k < length nodes → IsAt nodes r (image_at nodes ps k) → ((q : ℕ) → g q ≡ cond (eqb k q) (Some r) (f q)) → AreMade nodes ps f → AreMade nodes ps g
 AreMade_put nodes ps f g k r lt at puts made = record { made = λ q s e. either q s (eqb k q) refl (sym (puts q) ∙ e) }
   where
@@ -63,16 +60,7 @@ pub noted_image : (nodes : List Plain) (ps : List (ℕ × ℕ)) (f g : ℕ → O
 noted_image nodes ps f g k r (Ok x) lt at made puts = AreMade_put nodes ps f g k r lt at puts made
 noted_image nodes ps f g k r (Err x) lt at made puts = tt
 
-pub none_made : (nodes : List Plain) (ps : List (ℕ × ℕ)) (f : ℕ → Option ℕ) → ((q : ℕ) → f q ≡ None) → AreMade nodes ps f
-none_made nodes ps f none = record { made = λ q r e. let no : None ≡ Some r = sym (none q) ∙ e in absurd cc }
-
 -- ---- what comes of a term
-
-pub replaced_name : (t : Term) (env : List (Term × Term)) → IsName t → found_or (found env t) t ≡ replaced t env
-replaced_name (Of (term.int_name w n) no_parts) env e = refl
-replaced_name (Of (term.val_name w n) no_parts) env e = refl
-replaced_name (Of symbol no_parts) env e = absurd cc
-replaced_name (Of symbol (part t ps)) env e = absurd e
 
 replaced_symbol : (symbol : Symbol) (ps : Parts) (env : List (Term × Term)) → names_one symbol ≡ false → replaced (Of symbol ps) env ≡ rewritten (Of symbol (parts_of (replacers ps) env))
 replaced_symbol (term.int_name w n) ps env e = absurd cc
@@ -80,10 +68,6 @@ replaced_symbol (term.val_name w n) ps env e = absurd cc
 replaced_symbol (term.every w n) ps env e = absurd cc
 replaced_symbol (term.exists w n) ps env e = absurd cc
 replaced_symbol symbol ps env e = refl
-
-pub replaced_bound : (at : ℕ → Term) (all : Bool) (q : Quantifier) (env : List (Term × Term)) → replaced (bound_by at all q) env ≡ quantified all q.word q.number (replaced (at q.body)) env (replaced (at q.from) env) (replaced (at q.below) env) (span_of (as_number (replaced (at q.from) env)) (as_number (replaced (at q.below) env)))
-replaced_bound at true q env = refl
-replaced_bound at false q env = refl
 
 -- ---- parts that were looked up
 
@@ -136,12 +120,6 @@ instances_at body name env z k n lt =
 abbrev pub SoFar : List Plain → List ℕ → (List (Term × Term) → Term) → Term → List (Term × Term) → ℤ → ℕ → ℕ → Type 0
 SoFar nodes members body name env z k n = followed (parts_at (tree_at nodes) members) (instances body name env (z +ℤ pos k) (n - k)) ≡ instances body name env z n
 
-pub so_far_first : (nodes : List Plain) (body : List (Term × Term) → Term) (name : Term) (env : List (Term × Term)) (z : ℤ) (n : ℕ) → SoFar nodes [] body name env z 0 n
-so_far_first nodes body name env z n =
-    let e : z +ℤ pos 0 ≡ z = omega (arith, ints) in
-    let f : n - 0 ≡ n = omega arith in
-    ap (λ (y : ℤ). instances body name env y (n - 0)) e ∙ ap (instances body name env z) f
-
 pub so_far_more : (old new : List Plain) (members more : List ℕ) (r : ℕ) (body : List (Term × Term) → Term) (name : Term) (env : List (Term × Term)) (z : ℤ) (k n : ℕ) → k < n → Keeps old new → All (λ i. i < length old) members → IsAt new r (body ((name, Number (z +ℤ pos k)) ∷ env)) → more ≡ members ++ r ∷ [] → SoFar old members body name env z k n → SoFar new more body name env z (k + 1) n
 so_far_more old new members more r body name env z k n lt keeps below at pushed so_far =
     let rest = instances body name env (z +ℤ pos (k + 1)) (n - (k + 1)) in
@@ -168,21 +146,7 @@ paired old mid new ps all x v b r name value k below lt pushed is_name is_value 
   is = at.is ∙ ap (λ (qs : List (ℕ × ℕ)). image_at mid qs b) pushed ∙ (rw (k.trees b lt, is_name, is_value, seen_pairs_kept old mid ps k below) refl);
 }
 
-pub AreBelow_more : (n : ℕ) (ps all : List (ℕ × ℕ)) (x v : ℕ) → x < n → v < n → AreBelow n ps → all ≡ (x, v) ∷ ps → AreBelow n all
-AreBelow_more n ps all x v lt_x lt_v below e = subst (AreBelow n) (sym e) more
-  where
-    more : AreBelow n ((x, v) ∷ ps)
-    more zero d lt = (lt_x, lt_v)
-    more (suc i) d lt = below i d (omega arith)
-
 -- ---- quantifiers
-
--- the bounds and the body of a quantifier that was put there
-pub bound_made : (old mid new : List Plain) (symbol : Symbol) (s t b r : ℕ) (body : Term) → Keeps old mid → s < length old → t < length old → tree_at mid b ≡ body → IsAt new r (Of symbol (parts_at (tree_at mid) (s ∷ t ∷ b ∷ []))) → IsAt new r (Of symbol (part (tree_at old s) (part (tree_at old t) (part body no_parts))))
-bound_made old mid new symbol s t b r body k lt_s lt_t is at = record {
-  within = at.within;
-  is = at.is ∙ (rw (k.trees s lt_s, k.trees t lt_t, is) refl);
-}
 
 -- a body under a name, by what the old numbers name
 hidden_kept : (old mid : List Plain) (ps : List (ℕ × ℕ)) (x b : ℕ) (name : Term) → Keeps old mid → AreBelow (length old) ps → b < length old → tree_at mid x ≡ name → replaced (tree_at mid b) (hidden (found (seen_pairs (tree_at mid) ps) (tree_at mid x)) (tree_at mid x) (seen_pairs (tree_at mid) ps)) ≡ replaced (tree_at old b) (hidden (found (seen_pairs (tree_at old) ps) name) name (seen_pairs (tree_at old) ps))

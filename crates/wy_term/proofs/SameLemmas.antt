@@ -1,34 +1,13 @@
 -- The tests of equality answer true exactly where their arguments are equal.
-use Rattle.std.proofs.Common.{◌≡◌, ℕ, List, [], ◌∷◌, Bool, true, false, eqb, ◌&&◌, refl, ap, arith}
+use Rattle.std.proofs.Common.{◌≡◌, ℕ, List, [], ◌∷◌, true, eqb, ◌&&◌, refl, ap}
 use Rattle.std.specs.Prelude.{bytes_eq}
-use Rattle.std.specs.Bool.{beq}
 use Rattle.std.proofs.lemmas.Bool.{eqb-true}
 use Rattle.std.proofs.lemmas.Bool.Decides.{Decides-int_eq}
-use Rattle.std.proofs.lemmas.Slice.Eq.{bytes_eq-Decides}
+use Rattle.wy_value.proofs.wy_lemmas_proofs.Choices.{bits_self, eqb_itself as eqb_self, both_parts as both, bits_are}
+use Rattle.wy_value.proofs.wy_lemmas_proofs.Lists.{bytes_self, bytes_are, named_self}
 use Rattle.wy_term.specs.Term.{DataKind, null_kind, bool_kind, int_kind, array_kind, record_kind, Symbol, Term, Of, Parts, no_parts, part}
 use Rattle.wy_term.specs.Term as term
 use Rattle.wy_term.specs.Same.{same_names, same_kind, same_symbol, same_term, same_parts}
-
-pub both : (a b : Bool) → (a && b) ≡ true → (a ≡ true) × (b ≡ true)
-both true true e = (refl, refl)
-both true false e = absurd cc
-both false b e = absurd cc
-
-pub bytes_are : (x y : List ℕ) → bytes_eq x y ≡ true → x ≡ y
-bytes_are x y e = (bytes_eq-Decides x y).0 e
-
-pub bytes_self : (x : List ℕ) → bytes_eq x x ≡ true
-bytes_self x = (bytes_eq-Decides x x).1 refl
-
-pub bits_are : (a b : Bool) → beq a b ≡ true → a ≡ b
-bits_are true true e = refl
-bits_are true false e = absurd cc
-bits_are false true e = absurd cc
-bits_are false false e = refl
-
-bits_self : (a : Bool) → beq a a ≡ true
-bits_self true = refl
-bits_self false = refl
 
 pub names_are : (ns ms : List (List ℕ)) → same_names ns ms ≡ true → ns ≡ ms
 names_are [] [] e = refl
@@ -58,12 +37,6 @@ named_are : (of : List ℕ → ℕ → Symbol) (x y : List ℕ) (m n : ℕ) → 
 named_are of x y m n e =
     let h = both (bytes_eq x y) (eqb m n) e in
     rw (bytes_are x y h.0, eqb-true m n h.1) refl
-
-pub eqb_self : (n : ℕ) → eqb n n ≡ true
-eqb_self n = grind arith
-
-named_self : (x : List ℕ) (n : ℕ) → (bytes_eq x x && eqb n n) ≡ true
-named_self x n = rw (bytes_self x, eqb_self n) refl
 
 pub symbols_are : (a b : Symbol) → same_symbol a b ≡ true → a ≡ b
 symbols_are (term.number a) (term.number b) e = ap term.number ((Decides-int_eq a b).0 e)

@@ -15,3 +15,6 @@ pub mod Numbers
 pub mod FoldingView
 pub mod ReplacingView
 pub mod Copying
+-- passed on to the crates above
+pub use Rattle.wy_data.specs as wy_data
+pub use Rattle.wy_value.specs as wy_value

@@ -1,17 +1,18 @@
 -- Acceptance as a step.
-use Rattle.std.proofs.Common.{◌≡◌, ◌∙◌, ℕ, List, map, Bool, true, false, Ok, Err, refl, sym, ap}
+use Rattle.std.proofs.Common.{◌≡◌, ◌∙◌, ℕ, List, map, true, false, Ok, Err, refl, sym, ap}
 use Rattle.wy_cert.specs.Steps.{Certificates}
+use Rattle.wy_lemmas.proofs.Choices.{true_false as never_both}
 use Rattle.wy_top.specs.Refusals.{invalid_lines}
-use Rattle.wy_shown_conditions.specs.Certified.{AreFormed, AllHold}
-use Rattle.wy_shown_conditions.specs.ReadSorted.{AreSortedCertificates}
+use Rattle.wy_top_answers.specs.wy_vc_laws.shown.Certified.{AreFormed, AllHold}
+use Rattle.wy_top_answers.specs.wy_vc_laws.shown.ReadSorted.{AreSortedCertificates}
 use Rattle.wy_top.specs.Known.{Known}
 use Rattle.wy_top.specs.Seen.{known}
 use Rattle.wy_top.specs.declared.verdict.Verdict.{Verdict}
 use Rattle.wy_top.proofs.ShownLemmas.{closed_is_true, one_list}
-use Rattle.wy_answers.specs.Answers.{refused, IsRefusal}
-use Rattle.wy_answers.specs.Steps.{Setting, Came, Gives, due}
-use Rattle.wy_answers.specs.declared.answer.Answer.{Answer}
-use Rattle.wy_answers.proofs.StepLemmas.{value_gives, refusal_gives}
+use Rattle.wy_top_answers.specs.Answers.{refused, IsRefusal}
+use Rattle.wy_top_answers.specs.Steps.{Setting, Came, Gives, due}
+use Rattle.wy_top_answers.specs.declared.answer.Answer.{Answer}
+use Rattle.wy_top_answers.proofs.StepLemmas.{value_gives, refusal_gives}
 use Rattle.wy_top.specs.Acceptance.{Acceptance, AreVerdicts, accepts, are_closed, unproved_lines}
 use Rattle.wy_top.specs.Programs.{Program, conditions_of}
 
@@ -19,10 +20,6 @@ use Rattle.wy_top.specs.Programs.{Program, conditions_of}
 
 one_known : (certs : Certificates) (budget : ℕ) (p : Program) (ks ls : List Known) → AreVerdicts certs budget p ks → AreVerdicts certs budget p ls → ks ≡ ls
 one_known certs budget p ks ls a b = one_list certs budget 1 (conditions_of p) ks ls a b
-
-never_both : (b : Bool) → b ≡ true → b ≡ false → ⊥
-never_both true t f = absurd (cc)
-never_both false t f = absurd (cc)
 
 made : Program → List ℕ → Acceptance
 made p lines = record { program = p; lines = lines }

@@ -1,19 +1,19 @@
 -- The code of the program that a source has is such as a machine takes.
 use Rattle.std.proofs.Common.{ℕ, List, map, subst}
-use Rattle.wy_ast.specs.SurfaceSeen.{seen_decl}
-use Rattle.wy_code_ints.specs.Loadable.{IsLoadable}
-use Rattle.wy_code_ints.proofs.LoadableLemmas.{loadable}
-use Rattle.wy_compiled.specs.Fields.{HasFields}
-use Rattle.wy_compiled.specs.Programs.{code_of}
+use Rattle.wy_top_source.specs.wy_ast.SurfaceSeen.{seen_decl}
+use Rattle.wy_gen_sources.specs.wy_code_spec.ints.Loadable.{IsLoadable}
+use Rattle.wy_gen_sources.proofs.wy_code_spec_proofs.ints_lemmas.LoadableLemmas.{loadable}
+use Rattle.wy_gen_sources.specs.wy_code_spec.compiled.Fields.{HasFields}
+use Rattle.wy_gen_sources.specs.wy_code_spec.compiled.Programs.{code_of}
 use Rattle.wy_core.specs.CoreSeen.{seen_core}
 use Rattle.wy_core.specs.CoreTree.{Core}
 use Rattle.wy_core.specs.Types.{Ty}
-use Rattle.wy_source_ints.proofs.FieldNameLemmas.{named_fields}
-use Rattle.wy_formed.specs.Literals.{Ints}
-use Rattle.wy_named.proofs.LiteralLemmas.{named_ints_alone}
-use Rattle.wy_texts.specs.Sources.{IsProgram}
-use Rattle.wy_source_ints.proofs.ProgramFields.{read-fields}
-use Rattle.wy_source_ints.proofs.ProgramInts.{read-ints}
+use Rattle.wy_gen_sources.proofs.source_ints_lemmas.FieldNameLemmas.{named_fields}
+use Rattle.wy_core.specs.formed.Literals.{Ints}
+use Rattle.wy_gen_sources.proofs.wy_names_proofs.resolved_lemmas.LiteralLemmas.{named_ints_alone}
+use Rattle.wy_top_source.specs.texts.Sources.{IsProgram}
+use Rattle.wy_gen_sources.proofs.source_ints_lemmas.ProgramFields.{read-fields}
+use Rattle.wy_gen_sources.proofs.source_ints_lemmas.ProgramInts.{read-ints}
 
 pub source_loadable : (bytes : List ℕ) (core : Core ℕ) (flow : List Ty) → IsProgram bytes core flow → IsLoadable (code_of core)
 source_loadable bytes core flow p =

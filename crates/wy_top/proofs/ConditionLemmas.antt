@@ -1,24 +1,22 @@
 -- The conditions that a program owes, as numbers of terms.
-use Rattle.std.proofs.Common.{◌≡◌, ◌∙◌, ◌<◌, ◌≤◌, ◌+◌, ℕ, suc, List, [], ◌∷◌, ◌++◌, All, Bool, true, false, length, map, refl, sym, ap, subst, arith}
-use Rattle.std.specs.Prelude.{nat_lt, if◌then◌else◌}
+use Rattle.std.proofs.Common.{◌≡◌, ◌∙◌, ◌<◌, ◌≤◌, ℕ, List, [], ◌∷◌, All, length, map, refl, sym, ap, subst, arith}
 use Rattle.std.proofs.lemmas.List.{length-map}
 use Rattle.std.proofs.lemmas.List.Elements.{All-weaker}
-use Rattle.std.proofs.lemmas.Bool.{ltb-false}
-use Rattle.wy_checking.specs.Within.{IsWithin}
-use Rattle.wy_shown_conditions.proofs.TruthLemmas.{premises_met}
-use Rattle.wy_conditions.specs.Limits as limits
-use Rattle.wy_conditions.specs.Numbered.{Node, numbered_core}
-use Rattle.wy_conditions.specs.Owed.{Owed}
-use Rattle.wy_conditions.specs.Programs.{conditions_of, setting_of}
-use Rattle.wy_conditions.specs.Values.{Setting}
+use Rattle.wy_check.specs.Within.{IsWithin}
+use Rattle.wy_top_answers.proofs.wy_vc_laws_proofs.shown_lemmas.TruthLemmas.{premises_met}
+use Rattle.wy_vc.specs.wy_vc_spec.Limits as limits
+use Rattle.wy_vc.specs.wy_vc_spec.Numbered.{Node, numbered_core}
+use Rattle.wy_vc.specs.wy_vc_spec.Owed.{Owed}
+use Rattle.wy_vc.specs.wy_vc_spec.Programs.{conditions_of, setting_of}
+use Rattle.wy_vc.specs.wy_vc_spec.Values.{Setting}
 use Rattle.wy_core.specs.CoreTree.{Core}
 use Rattle.wy_core.specs.Types.{Ty}
-use Rattle.wy_formed_conditions.specs.OwedConditions.{owed_conditions, with_types}
-use Rattle.wy_shown_conditions.specs.Certified.{AreFormed}
+use Rattle.wy_top_answers.specs.wy_sound_terms.formed.OwedConditions.{owed_conditions, with_types}
+use Rattle.wy_top_answers.specs.wy_vc_laws.shown.Certified.{AreFormed}
 use Rattle.wy_term.specs.Condition.{Condition, condition_of}
 use Rattle.wy_term.specs.Nodes.{Plain}
-use Rattle.wy_term.specs.Term.{Term}
 use Rattle.wy_term.specs.declared.cond.Cond.{Cond}
+use Rattle.wy_vc.proofs.ConditionLemmas.{few_within}
 use Rattle.wy_vc.specs.Told.{IsCond, IsEntry, Told, seen_cond, told}
 use Rattle.wy_top.specs.Owed.{limit_by, told_by}
 
@@ -52,20 +50,6 @@ pub are_formed : (core : Core ℕ) (flow : List Ty) (nodes : List Plain) (cs : L
 are_formed core flow nodes cs is = subst AreFormed (sym (conditions_are core flow nodes cs is)) (premises_met core flow)
 
 -- ---- their number
-
--- where the limits are kept there are few enough
-few_if : (n k m : ℕ) (many large : Bool) (left : limits.Passing) → (many ≡ false → n ≤ m) → (n ≤ m → left ≡ limits.Within → n + k ≤ m) → (if many then limits.TooMany else (if large then limits.TooLarge n else left)) ≡ limits.Within → n + k ≤ m
-few_if n k m true large left less rest is = absurd (let e : limits.TooMany ≡ limits.Within = is in cc)
-few_if n k m false true left less rest is = absurd (let e : limits.TooLarge n ≡ limits.Within = is in cc)
-few_if n k m false false left less rest is = rest (less refl) is
-
-few_within : (s : Setting Node) (before : List Term) (k : ℕ) (os : List Owed) → k ≤ limits.most_conditions → limits.passing_from s before (suc k) os ≡ limits.Within → k + length os ≤ limits.most_conditions
-few_within s before k [] le is = omega (arith, le)
-few_within s before k (o ∷ os) le is =
-    let n : suc k + length os ≤ limits.most_conditions =
-    few_if (suc k) (length os) limits.most_conditions (nat_lt limits.most_conditions (suc k)) (limits.is_too_large s before o) (limits.passing_from s (before ++ limits.terms_of s o) (suc (suc k)) os)
-    (λ few. ltb-false limits.most_conditions (suc k) few) (λ next so. few_within s (before ++ limits.terms_of s o) (suc k) os next so) is in
-    omega (arith, n)
 
 pub are_few : (core : Core ℕ) (flow : List Ty) (nodes : List Plain) (cs : List Cond) → map (seen_cond nodes) cs ≡ told_by core flow → limit_by core flow ≡ limits.Within → length cs ≤ limits.most_conditions
 are_few core flow nodes cs is within =

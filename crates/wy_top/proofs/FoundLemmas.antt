@@ -1,21 +1,22 @@
 -- The certificates for the conditions that were found, one after the other.
-use Rattle.std.proofs.Common.{◌≡◌, ◌∙◌, ◌<◌, ◌≤◌, ◌+◌, ℕ, zero, suc, List, [], ◌∷◌, ◌++◌, All, length, map, take, get_or, true, Option, Some, None, refl, inl, inr, sym, ap, subst, arith}
-use Rattle.std.proofs.lemmas.List.{append-nil, length-map, map-append}
+use Rattle.std.proofs.Common.{◌≡◌, ◌∙◌, ◌<◌, ◌+◌, ℕ, zero, suc, List, [], ◌∷◌, ◌++◌, All, length, map, take, get_or, true, Option, Some, None, refl, inl, inr, sym, ap, subst, arith}
+use Rattle.std.proofs.lemmas.List.{length-map, map-append}
 use Rattle.std.specs.Prelude.{IfOk, IfSome, Result, Ok, Err}
 use Rattle.std.proofs.lemmas.List.Elements.{All-append, All-cons, All-nil}
-use Rattle.wy_writable.specs.Writable.{AreWritable}
+use Rattle.wy_top.proofs.ProofLemmas.{some_certs}
+use Rattle.wy_prove.specs.wy_prove_writable.Writable.{AreWritable}
 use Rattle.wy_cert.specs.Steps.{Certificates, NamesItsTerms, NameTheirTerms, Written, certificates_of, steps_of}
 use Rattle.wy_cert.specs.declared.step.Cert.{Cert}
 use Rattle.wy_cert.specs.declared.step.Certs.{Certs}
-use Rattle.wy_sound_certificates.specs.Sortedness.{AreSortedSteps}
+use Rattle.wy_top_answers.specs.wy_check_laws.sound.Sortedness.{AreSortedSteps}
 use Rattle.wy_term.specs.Condition.{Condition}
 use Rattle.wy_term.specs.declared.cond.Cond.{Cond}
-use Rattle.wy_valid.specs.Validity.{IsValid}
-use Rattle.wy_certifying.specs.Answers.{AnswersWhatIsFound}
-use Rattle.wy_closing_rounds.specs.Leaves.{AreFoldedFormulas, IsFoldedCondition}
-use Rattle.wy_folded_conditions.specs.FoldedConditions.{AllFolded, AreFoldedThroughout, IsFoldedThroughout}
-use Rattle.wy_search.specs.Tree as search
-use Rattle.wy_shown_conditions.specs.Certified.{AreFormed, IsFormed}
+use Rattle.wy_top_answers.specs.wy_check_spec.valid.Validity.{IsValid}
+use Rattle.wy_prove.specs.Answers.{AnswersWhatIsFound}
+use Rattle.wy_prove.specs.wy_search_laws.rounds.Leaves.{AreFoldedFormulas, IsFoldedCondition}
+use Rattle.wy_top_answers.specs.wy_vc_laws.folded.FoldedConditions.{AllFolded, AreFoldedThroughout, IsFoldedThroughout}
+use Rattle.wy_prove.specs.wy_search_spec.Tree as search
+use Rattle.wy_top_answers.specs.wy_vc_laws.shown.Certified.{AreFormed, IsFormed}
 use Rattle.wy_term.specs.Term.{Term}
 use Rattle.wy_top.specs.Found.{AreFor, Begin, IsMore, IsOneMore, IsOwn, LacksOne}
 use Rattle.wy_top.specs.Known.{AreKnown, End, IsKnown, Known, end_of, found, is_found, spent, stays_open, supplied}
@@ -25,12 +26,6 @@ use Rattle.wy_top.specs.declared.verdict.End.{End as CodeEnd}
 use Rattle.wy_top.specs.declared.verdict.Verdict.{Verdict}
 
 -- ---- one condition
-
-pub nothing_more : (n : ℕ) (c : Condition) (e : CodeEnd) (certs : Certificates) → IsOwn n c (seen_end e) [] → IsMore n c (seen_end e) certs certs
-nothing_more n c e certs own = record { own = []; are = own; more_are = sym (append-nil certs) }
-
-pub one_more : (n leaves : ℕ) (c : Condition) (certs more : Certificates) → IsOneMore n c certs more → IsMore n c (found leaves) certs more
-one_more n leaves c certs more h = record { own = (n, h.0) ∷ []; are = (h.0, h.1, refl); more_are = h.2 }
 
 -- a certificate with the number of its condition
 abbrev pub pair_of : ℕ × Cert → ℕ × List Written
@@ -99,9 +94,6 @@ mapped_at f (y ∷ xs) (suc i) x lt is = mapped_at f xs i x (omega (arith, lt)) 
 
 -- ---- what was answered
 
-abbrev some_certs : Certs → Option Certs
-some_certs certs = Some certs
-
 pub is_more : (n : ℕ) (c : Condition) (e : End) (certs : Certificates) (o : Option Certs) (more : Certs) → o ≡ some_certs more → IfSome o (λ (k : Certs). IsMore n c e certs (certificates_of k)) → IsMore n c e certs (certificates_of more)
 is_more n c e certs o more is h = subst (λ (p : Option Certs). IfSome p (λ (k : Certs). IsMore n c e certs (certificates_of k))) is h
 
@@ -109,9 +101,6 @@ pub are_named : (o : Option Certs) (more : Certs) → o ≡ some_certs more → 
 are_named o more is h = subst (λ (p : Option Certs). IfSome p NameTheirTerms) is h
 
 -- ---- turns
-
-pub found_none : (cs : List Condition) (vs : List Verdict) (certs : Certificates) → certs ≡ [] → AreFor 1 (take 0 cs) (take 0 (map known vs)) certs
-found_none cs vs certs none = none
 
 pub found_turn : (of : Cond → Condition) (conds : List Cond) (vs : List Verdict) (i n : ℕ) (c : Cond) (d : Condition) (v : Verdict) (certs more : Certificates)
     → length vs ≡ length conds → i < length conds → c ≡ get_or conds i c → v ≡ get_or vs i v → n ≡ i + 1 → d ≡ of c
@@ -126,18 +115,6 @@ found_turn of conds vs i n c d v certs more each lt at there number same so h =
     (subst (λ (ks : List Known). AreFor 1 (take i (map of conds) ++ of c ∷ []) ks more) (sym (taken (map known vs) i (known v) lk (mapped_at known vs i v lv there)))
     (subst (λ (ds : Certificates). AreFor 1 (take i (map of conds) ++ of c ∷ []) (take i (map known vs) ++ known v ∷ []) ds) (sym h.more_are)
     (for_push 1 n (take i (map of conds)) (take i (map known vs)) (of c) (known v) certs h.own whole so own)))
-
-take_past : {X : Type 0} (xs : List X) (i : ℕ) → length xs ≤ i → take i xs ≡ xs
-take_past [] zero le = refl
-take_past [] (suc i) le = refl
-take_past (x ∷ xs) zero le = absurd (omega (arith, le))
-take_past {X} (x ∷ xs) (suc i) le = ap (λ (ys : List X). x ∷ ys) (take_past xs i (omega (arith, le)))
-
-pub found_whole : (of : Cond → Condition) (conds : List Cond) (vs : List Verdict) (i : ℕ) (certs : Certificates) → length vs ≡ length conds → length conds ≤ i
-    → AreFor 1 (take i (map of conds)) (take i (map known vs)) certs → AreFor 1 (map of conds) (map known vs) certs
-found_whole of conds vs i certs each le so =
-    subst (λ (ks : List Known). AreFor 1 (map of conds) ks certs) (take_past (map known vs) i (omega (arith, le, each, length-map vs known)))
-    (subst (λ (cs : List Condition). AreFor 1 cs (take i (map known vs)) certs) (take_past (map of conds) i (omega (arith, le, length-map conds of))) so)
 
 -- one that was found and got none was found
 pub found_lacks : {E : Type 0} (e : CodeEnd) (Q : Type 0) (r : Result (Option Certs) E) → is_found (seen_end e) ≡ true → IfOk r (λ (o : Option Certs). o ≡ None → Q) → IfOk r (λ (o : Option Certs). o ≡ None → (is_found (seen_end e) ≡ true) × Q)

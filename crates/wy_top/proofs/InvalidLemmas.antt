@@ -1,19 +1,11 @@
 -- A text to which the lines of bad steps are added.
-use Rattle.std.proofs.Common.{◌≡◌, ◌∙◌, ◌<◌, ◌≤◌, ◌+◌, ℕ, zero, suc, List, [], ◌∷◌, ◌++◌, length, drop, get_or, map, sym, ap, arith, append_assoc}
+use Rattle.std.proofs.Common.{◌≡◌, ◌∙◌, ◌<◌, ◌≤◌, ◌+◌, ℕ, suc, List, ◌++◌, length, drop, get_or, map, sym, ap, arith, append_assoc}
 use Rattle.std.proofs.lemmas.List.{append-nil, drop_all}
+use Rattle.wy_lemmas.proofs.Lists.{next_of as at_drop}
 use Rattle.wy_top.specs.Refusals.{invalid_from, invalid_line}
 use Rattle.wy_top.specs.Known.{Known}
 use Rattle.wy_top.specs.Seen.{known}
 use Rattle.wy_top.specs.declared.verdict.Verdict.{Verdict}
-
--- the first of what is left
-pub at_drop : {A : Type 0} (xs : List A) (i : ℕ) (x : A) → i < length xs → x ≡ get_or xs i x → drop i xs ≡ x ∷ drop (i + 1) xs
-at_drop [] i x lt is = absurd (omega (arith, lt))
-at_drop {A} (y ∷ xs) zero x lt is = ap (λ (z : A). z ∷ xs) (sym is)
-at_drop {A} (y ∷ xs) (suc i) x lt is = at_drop xs i x (omega (arith, lt)) is ∙ ap (λ (k : ℕ). x ∷ drop k (y ∷ xs)) behind
-  where
-    behind : suc (i + 1) ≡ suc i + 1
-    behind = omega arith
 
 -- one more condition
 pub invalid_more : (file : List ℕ) (xs : List Verdict) (i n : ℕ) (x : Verdict) (out new whole : List ℕ) → i < length xs → x ≡ get_or xs i x → n ≡ i + 1

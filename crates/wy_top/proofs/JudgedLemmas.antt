@@ -1,17 +1,17 @@
 -- What is known of conditions, one after the other.
 use Rattle.std.proofs.Common.{◌≡◌, ◌∙◌, ◌<◌, ◌≤◌, ◌+◌, ℕ, zero, suc, List, [], ◌∷◌, ◌++◌, All, length, map, take, get_or, Option, Some, None, refl, sym, ap, subst, arith}
 use Rattle.std.proofs.lemmas.List.{length-map}
-use Rattle.wy_checking.proofs.StayLemmas.{as_before, condition_stays, conditions_stay}
-use Rattle.wy_checking.specs.Verdicts.{certificate_for, verdict_on, verdicts_on}
-use Rattle.wy_checking.specs.Within.{IsWithin}
-use Rattle.wy_checking.specs.declared.verdict.Verdict.{Verdict as Given}
-use Rattle.wy_checking.specs.declared.verdict.Verdict.TheVariants as given
+use Rattle.wy_check.proofs.StayLemmas.{as_before, condition_stays, conditions_stay}
+use Rattle.wy_check.specs.Verdicts.{certificate_for, verdict_on, verdicts_on}
+use Rattle.wy_check.specs.Within.{IsWithin}
+use Rattle.wy_check.specs.declared.verdict.Verdict.{Verdict as Given}
+use Rattle.wy_check.specs.declared.verdict.Verdict.TheVariants as given
 use Rattle.wy_cert.specs.Steps.{Certificates}
-use Rattle.wy_search.specs.Tree as tree
-use Rattle.wy_certifying.specs.Seen as searching
-use Rattle.wy_certifying.specs.OpenLeaf.{OpenLeaf}
-use Rattle.wy_certifying.specs.Searched.{Verdict as Search}
-use Rattle.wy_certifying.specs.Searched.TheVariants as search
+use Rattle.wy_prove.specs.wy_search_spec.Tree as tree
+use Rattle.wy_prove.specs.Seen as searching
+use Rattle.wy_prove.specs.OpenLeaf.{OpenLeaf}
+use Rattle.wy_prove.specs.Searched.{Verdict as Search}
+use Rattle.wy_prove.specs.Searched.TheVariants as search
 use Rattle.wy_term.specs.Condition.{Condition, condition_of}
 use Rattle.wy_term.specs.Nodes.{Plain, tree_at}
 use Rattle.wy_term.specs.declared.cond.Cond.{Cond}

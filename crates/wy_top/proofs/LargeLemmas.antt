@@ -1,20 +1,21 @@
 -- The steps of `big`.
 use Rattle.std.proofs.Common.{◌≡◌, ◌≤◌, ◌<◌, ◌∙◌, ◌++◌, ℕ, List, [], length, Option, Some, None, Ok, Err, inl, inr, arith, refl, sym, ap, subst}
-use Rattle.wy_answers.specs.Answers.{refused, written as writes, no_memory, IsRefusal}
-use Rattle.wy_answers.specs.Loading.{source_limit}
-use Rattle.wy_answers.specs.Steps.{Setting, Came, Gives, Answers}
-use Rattle.wy_answers.specs.Texts.{of_file}
-use Rattle.wy_answers.specs.declared.answer.Answer.{Answer}
-use Rattle.wy_answers.proofs.StepLemmas.{value_gives, refusal_gives}
-use Rattle.wy_answers.proofs.AnswerLemmas.{last_answers, memory_answers}
-use Rattle.wy_big.specs.Source.{source_of}
-use Rattle.wy_mach.specs.Running.{Spends}
-use Rattle.wy_report.specs.Lines.{steps_spent}
-use Rattle.wy_running.specs.Running.{EndsSo, Finished, written}
-use Rattle.wy_running.specs.declared.end.RunEnd.{RunEnd}
-use Rattle.wy_running.specs.declared.end.RunEnd.TheVariants.{Done, Spent, OutFault}
-use Rattle.wy_step.specs.Step as step
-use Rattle.wy_step.specs.Step.{State, Ended, Frame, Caller}
+use Rattle.wy_top_answers.specs.Answers.{refused, written as writes, no_memory, IsRefusal}
+use Rattle.wy_top_answers.specs.Loading.{source_limit}
+use Rattle.wy_top_answers.specs.Steps.{Setting, Came, Gives, Answers}
+use Rattle.wy_top_answers.specs.Texts.{of_file}
+use Rattle.wy_top_answers.specs.declared.answer.Answer.{Answer}
+use Rattle.wy_top_answers.proofs.StepLemmas.{value_gives, refusal_gives}
+use Rattle.wy_top_answers.proofs.AnswerLemmas.{last_answers, memory_answers}
+use Rattle.wy_top_big.specs.Source.{source_of}
+use Rattle.wy_lemmas.proofs.Lists.{same_bytes}
+use Rattle.wy_mach_run.specs.wy_mach.Running.{Spends}
+use Rattle.wy_top_answers.specs.report.Lines.{steps_spent}
+use Rattle.wy_mach_run.specs.Running.{EndsSo, Finished, written}
+use Rattle.wy_mach_run.specs.declared.end.RunEnd.{RunEnd}
+use Rattle.wy_mach_run.specs.declared.end.RunEnd.TheVariants.{Done, Spent, OutFault}
+use Rattle.wy_gen_sources.specs.wy_code_spec.step.Step as step
+use Rattle.wy_gen_sources.specs.wy_code_spec.step.Step.{State, Ended, Frame, Caller}
 use Rattle.wy_value.specs.Datum.{Datum}
 use Rattle.wy_top.specs.Large.{IsLine, finishes_in, head, large_name, makes, makes_one}
 use Rattle.wy_top.specs.declared.launching.Launch.{Launch}
@@ -42,10 +43,6 @@ makes_long s functions seed a long refusal =
 bytes_or : List ℕ → Option (List ℕ) → List ℕ
 bytes_or d None = d
 bytes_or d (Some x) = x
-
-same_bytes : (wrote text : List ℕ) → Some wrote ≡ Some text → wrote ≡ text
-unfolding bytes_or
-same_bytes wrote text e = ap (bytes_or text) e
 
 by_line : (s : Setting) (functions conditions : ℕ) (l : Launch) (v : Datum) (output wrote : List ℕ) (a : Answer) → wrote ≡ written l.start.has_result output v → IsLine functions conditions wrote a
     → Answers s (finishes_in functions conditions l (Ended v output)) a

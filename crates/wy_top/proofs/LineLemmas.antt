@@ -2,7 +2,9 @@
 use Rattle.std.proofs.Common.{◌≡◌, ◌∙◌, ◌<◌, ◌≤◌, ◌+◌, ℕ, zero, suc, List, [], ◌∷◌, ◌++◌, length, drop, get_or, map, refl, sym, ap, arith, append_assoc}
 use Rattle.std.specs.Prelude.{codes}
 use Rattle.std.proofs.lemmas.List.{append-nil, drop_all, length-map}
-use Rattle.wy_report.specs.Lines.{of_condition, open_condition, refused}
+use Rattle.wy_lemmas.proofs.Lists.{next_of as at_drop}
+use Rattle.wy_lemmas.proofs.Numbers.{two}
+use Rattle.wy_top_answers.specs.report.Lines.{of_condition, open_condition, refused}
 use Rattle.wy_term.specs.Nodes.{Plain}
 use Rattle.wy_term.specs.declared.cond.Cond.{Cond}
 use Rattle.wy_vc.specs.Told.{Told, seen_cond}
@@ -10,7 +12,6 @@ use Rattle.wy_top.specs.Known.{Known, End, supplied, found, stays_open, spent, c
 use Rattle.wy_top.specs.Seen.{known, seen_end, NamesTerms, NameTerms}
 use Rattle.wy_top.specs.declared.verdict.Verdict.{Verdict}
 use Rattle.wy_top.specs.Refusals.{end_lines, lines_from, refusal_lines}
-use Rattle.wy_top.proofs.InvalidLemmas.{at_drop}
 
 -- the numbers that an end has are those of its terms
 pub named_index : (vs : List Verdict) (i : ℕ) (d : Verdict) → NameTerms vs → i < length vs → NamesTerms (get_or vs i d).end
@@ -67,9 +68,6 @@ whole_lines file bytes budget nodes cs vs text new sum n o p text_is n_is o_is p
     ∙ ap (λ (l : List ℕ). l ++ sum) (text_is ∙ same_lines file bytes budget 1 [] nodes cs ks)
     ∙ ap (λ (l : List ℕ). lines_from file bytes budget 1 (map (seen_cond nodes) cs) ks ++ l)
     (sum_is ∙ (ap (λ (k : ℕ). refused k o p) each ∙ (ap (λ (k : ℕ). refused (length ks) k p) o_is ∙ ap (λ (k : ℕ). refused (length ks) (count is_open ks) k) p_is)))
-
-abbrev pub two : ℕ → ℕ → ℕ × ℕ
-two a b = (a, b)
 
 -- ---- an open condition, whose literals are written behind its line
 

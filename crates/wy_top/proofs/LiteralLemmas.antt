@@ -1,14 +1,14 @@
 -- A text to which the lines of literals are added.
 use Rattle.std.proofs.Common.{◌≡◌, ◌∙◌, ◌<◌, ◌≤◌, ◌+◌, ℕ, zero, suc, List, [], ◌∷◌, ◌++◌, length, drop, get_or, map, Bool, true, false, refl, sym, ap, arith, append_assoc}
 use Rattle.std.proofs.lemmas.List.{append-nil, drop_all}
-use Rattle.wy_judging.specs.Seen.{seen_literal, AreOver}
-use Rattle.wy_report.specs.Listing.{formula_line}
-use Rattle.wy_show.specs.Text.{text_of}
+use Rattle.wy_prove.specs.wy_check_nodes.Seen.{seen_literal, AreOver}
+use Rattle.wy_lemmas.proofs.Lists.{next_of as at_drop}
+use Rattle.wy_top_answers.specs.report.Listing.{formula_line}
+use Rattle.wy_term_text.specs.show.Text.{text_of}
 use Rattle.wy_term.specs.Term.{Term}
-use Rattle.wy_valid.specs.Literals.{formula_of}
+use Rattle.wy_top_answers.specs.wy_check_spec.valid.Literals.{formula_of}
 use Rattle.wy_top.specs.Refusals.{literal_lines}
 use Rattle.wy_top.specs.Sign.{sign_text}
-use Rattle.wy_top.proofs.InvalidLemmas.{at_drop}
 
 -- an atom, or its denial, on a line
 line_of : (a : Term) (holds : Bool) → sign_text holds ++ (text_of a ++ 10 ∷ []) ≡ formula_line (formula_of (record { atom = a; holds = holds }))

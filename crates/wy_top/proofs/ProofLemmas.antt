@@ -3,17 +3,17 @@ use Rattle.std.proofs.Common.{◌≡◌, ◌∙◌, ◌<◌, ◌^◌, ℕ, List,
 use Rattle.wy_top.specs.Known.{Known}
 use Rattle.wy_top.proofs.ShownLemmas.{one_list}
 use Rattle.std.specs.Prelude.{IfErr, IfOk, IfSome, Option, Result, Some, map}
-use Rattle.wy_answers.specs.Answers.{IsRefusal, no_memory}
-use Rattle.wy_answers.specs.Steps.{Setting, Came, Gives, came, due, uncertified}
-use Rattle.wy_answers.specs.Texts.{not_certified}
-use Rattle.wy_answers.specs.declared.answer.Answer.{Answer}
-use Rattle.wy_answers.proofs.StepLemmas.{value_gives, free_gives, memory_gives}
+use Rattle.wy_top_answers.specs.Answers.{IsRefusal, no_memory}
+use Rattle.wy_top_answers.specs.Steps.{Setting, Came, Gives, came, due, uncertified}
+use Rattle.wy_top_answers.specs.Texts.{not_certified}
+use Rattle.wy_top_answers.specs.declared.answer.Answer.{Answer}
+use Rattle.wy_top_answers.proofs.StepLemmas.{value_gives, free_gives, memory_gives}
 use Rattle.wy_top.specs.Acceptance.{AreVerdicts, are_closed}
 use Rattle.wy_top.specs.Programs.{Program, conditions_of}
 use Rattle.wy_cert.specs.File.{ReadsFile}
 use Rattle.wy_cert.specs.Steps.{Certificates, certificates_of}
 use Rattle.wy_cert.specs.declared.step.Certs.{Certs}
-use Rattle.wy_cert_text.specs.Text.{file_text}
+use Rattle.wy_cert.specs.writing.Text.{file_text}
 use Rattle.wy_top.specs.Found.{AreFor, LacksOne}
 use Rattle.wy_term.specs.Condition.{Condition, condition_of}
 use Rattle.wy_term.specs.declared.cond.Cond.{Cond}
@@ -59,7 +59,7 @@ saved_file p budget a ks certs (Ok f) so are few h =
     }
 saved_file p budget a ks certs (Err b) so are few h = tt
 
-abbrev some_certs : Certs → Option Certs
+abbrev pub some_certs : Certs → Option Certs
 some_certs certs = Some certs
 
 -- they are for the conditions of the program

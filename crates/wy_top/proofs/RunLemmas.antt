@@ -1,19 +1,19 @@
 -- What a run that started shows.
 use Rattle.std.proofs.Common.{◌≡◌, ◌≤◌, ◌⊎◌, ◌∙◌, ◌++◌, ◌+◌, ℕ, List, [], length, take, Bool, Option, Some, None, inl, inr, arith, refl, sym, ap}
-use Rattle.std.proofs.Math.Seq.{take-append-add, take-length}
+use Rattle.std.proofs.Math.Seq.{take-append-add}
 use Rattle.std.proofs.lemmas.List.{append-nil, append_assoc, length-append}
-use Rattle.wy_answers.specs.Showing.{sinks}
-use Rattle.wy_answers.proofs.LoadLemmas.{rose_within}
-use Rattle.wy_answers.proofs.ShowLemmas.{took_nothing}
-use Rattle.wy_mach.specs.Running.{Spends}
+use Rattle.wy_top_answers.specs.Showing.{sinks}
+use Rattle.wy_top_answers.proofs.LoadLemmas.{rose_within}
+use Rattle.wy_top_answers.proofs.ShowLemmas.{took_nothing, took_whole}
+use Rattle.wy_mach_run.specs.wy_mach.Running.{Spends}
 use Rattle.wy_port.specs.Count.{Rose}
 use Rattle.wy_port.specs.Taken.{TookFront, with_taken}
-use Rattle.wy_report.specs.Lines.{steps_spent}
-use Rattle.wy_running.specs.Running.{EndsSo, Finished, WritesFront, written}
-use Rattle.wy_running.specs.declared.end.RunEnd.{RunEnd}
-use Rattle.wy_running.specs.declared.end.RunEnd.TheVariants.{Done, Spent, OutFault}
-use Rattle.wy_step.specs.Step as step
-use Rattle.wy_step.specs.Step.{State, Ended}
+use Rattle.wy_top_answers.specs.report.Lines.{steps_spent}
+use Rattle.wy_mach_run.specs.Running.{EndsSo, Finished, WritesFront, written}
+use Rattle.wy_mach_run.specs.declared.end.RunEnd.{RunEnd}
+use Rattle.wy_mach_run.specs.declared.end.RunEnd.TheVariants.{Done, Spent, OutFault}
+use Rattle.wy_gen_sources.specs.wy_code_spec.step.Step as step
+use Rattle.wy_gen_sources.specs.wy_code_spec.step.Step.{State, Ended}
 use Rattle.wy_top.specs.Runs.{Reports, whole, front, EndsRun, Shows, finished, spends, sink_failed, no_memory, stats_text}
 
 -- ---- texts one behind the other
@@ -40,10 +40,6 @@ pub writes_nothing : (wanted : Bool) (st : State) (known : Option (List ℕ)) �
 writes_nothing wanted (step.Runs fr callers output) known = took_nothing known output
 writes_nothing wanted (Ended v output) known = took_nothing known (written wanted output v)
 writes_nothing wanted step.Stuck known = tt
-
--- what was written whole is a front
-took_whole : (before after : Option (List ℕ)) (text : List ℕ) → after ≡ with_taken before text → TookFront before after text
-took_whole before after text e = record { count = length text; within = omega arith; took = e ∙ ap (with_taken before) (sym (take-length text)) }
 
 writes_done : (wanted : Bool) (copies nodes : ℕ) (before after : Option (List ℕ)) (st : State) → Finished wanted copies nodes before after st → WritesFront wanted before after st
 writes_done wanted copies nodes before after (step.Runs fr callers output) h = absurd h

@@ -1,10 +1,10 @@
 -- Certificates for all conditions of a program, where they are supplied.
-use Rattle.std.proofs.Common.{◌≡◌, ◌+◌, ℕ, suc, List, [], ◌∷◌, map, Bool, true, false, None, refl, sym, ap, subst}
-use Rattle.std.specs.Prelude.{◌&&◌}
-use Rattle.wy_search.specs.Tree as search
-use Rattle.wy_checking.specs.Verdicts.{AreSupplied, verdicts_on}
-use Rattle.wy_checking.specs.declared.verdict.Verdict.{Verdict as Given}
-use Rattle.wy_checking.specs.declared.verdict.Verdict.TheVariants as accepting
+use Rattle.std.proofs.Common.{◌≡◌, ◌+◌, ℕ, suc, List, [], ◌∷◌, map, true, None, refl, sym, ap, subst}
+use Rattle.wy_lemmas.proofs.Choices.{both_parts as both}
+use Rattle.wy_prove.specs.wy_search_spec.Tree as search
+use Rattle.wy_check.specs.Verdicts.{AreSupplied, verdicts_on}
+use Rattle.wy_check.specs.declared.verdict.Verdict.{Verdict as Given}
+use Rattle.wy_check.specs.declared.verdict.Verdict.TheVariants as accepting
 use Rattle.wy_cert.specs.Steps.{Certificates}
 use Rattle.wy_term.specs.Condition.{Condition}
 use Rattle.wy_top.specs.Acceptance.{are_closed, is_closed}
@@ -27,11 +27,6 @@ one_given c budget supplied searched closed = absurd (no_search_supplies searche
 one_given c budget (found leaves) searched closed = refl
 one_given c budget (stays_open leaf why literals) searched closed = absurd cc
 one_given c budget spent searched closed = absurd cc
-
-both : (a b : Bool) → (a && b) ≡ true → (a ≡ true) × (b ≡ true)
-both true true e = (refl, refl)
-both true false e = absurd cc
-both false b e = absurd cc
 
 all_supplied : (budget n : ℕ) (cs : List Condition) (ks : List Known) → AreKnown [] budget n cs ks → are_closed ks ≡ true → AreSupplied (map given_by ks)
 all_supplied budget n [] [] known closed = tt

@@ -1,20 +1,21 @@
 -- What verdicts show, and that there is one list of them.
 use Rattle.std.proofs.Common.{◌≡◌, ◌∙◌, ◌+◌, ℕ, List, [], ◌∷◌, Bool, true, false, cond, Option, Some, None, refl, sym, ap, subst}
-use Rattle.std.specs.Prelude.{◌==◌, ◌&&◌}
-use Rattle.wy_checking.specs.Verdicts.{certificate_for, verdict_from, verdict_on}
-use Rattle.wy_checking.specs.declared.verdict.Verdict.{Verdict as Given}
-use Rattle.wy_checking.specs.declared.verdict.Verdict.TheVariants as given
+use Rattle.std.specs.Prelude.{◌==◌}
+use Rattle.wy_check.specs.Verdicts.{certificate_for, verdict_from, verdict_on}
+use Rattle.wy_check.specs.declared.verdict.Verdict.{Verdict as Given}
+use Rattle.wy_check.specs.declared.verdict.Verdict.TheVariants as given
 use Rattle.wy_cert.specs.Steps.{Certificates, Written}
-use Rattle.wy_search.specs.Tree as tree
-use Rattle.wy_search.proofs.VerdictLemmas.{one_verdict}
-use Rattle.wy_shown_conditions.specs.Certified.{IsFormed}
-use Rattle.wy_shown_conditions.specs.ReadSorted.{AreSortedCertificates}
-use Rattle.wy_shown_conditions.proofs.ReadLemmas.{reads_sorted}
-use Rattle.wy_sound_certificates.specs.Sortedness.{AreSortedSteps}
-use Rattle.wy_sound_certificates.proofs.SoundLemmas.{valid_implies_true}
+use Rattle.wy_lemmas.proofs.Choices.{both_parts as both}
+use Rattle.wy_prove.specs.wy_search_spec.Tree as tree
+use Rattle.wy_prove.proofs.wy_search_spec_proofs.VerdictLemmas.{one_verdict}
+use Rattle.wy_top_answers.specs.wy_vc_laws.shown.Certified.{IsFormed}
+use Rattle.wy_top_answers.specs.wy_vc_laws.shown.ReadSorted.{AreSortedCertificates}
+use Rattle.wy_top_answers.proofs.wy_vc_laws_proofs.shown_lemmas.ReadLemmas.{reads_sorted}
+use Rattle.wy_top_answers.specs.wy_check_laws.sound.Sortedness.{AreSortedSteps}
+use Rattle.wy_top_answers.proofs.wy_check_laws_proofs.sound_lemmas.SoundLemmas.{valid_implies_true}
 use Rattle.wy_term.specs.Condition.{Condition, HoldsAlways}
-use Rattle.wy_sound_search.proofs.FoundLemmas.{found_true}
-use Rattle.wy_valid.specs.Validity.{first_bad}
+use Rattle.wy_prove.proofs.wy_search_laws_proofs.sound_lemmas.FoundLemmas.{found_true}
+use Rattle.wy_top_answers.specs.wy_check_spec.valid.Validity.{first_bad}
 use Rattle.wy_top.specs.Acceptance.{are_closed, is_closed}
 use Rattle.wy_top.specs.Known.{End, EndsSo, IsKnown, IsSearched, Known, OneList, end_of, found, spent, stays_open, supplied}
 use Rattle.wy_top.specs.Shown.{ClosedIsTrue, ReadIsTrue}
@@ -75,10 +76,6 @@ closed_holds certs budget n c supplied sorted formed h so_it_is = supplied_holds
 closed_holds certs budget n c (found leaves) sorted formed h so_it_is = found_holds c budget leaves (verdict_on c (certificate_for certs n)) formed h
 closed_holds certs budget n c (stays_open leaf why literals) sorted formed h so_it_is = absurd (cc)
 closed_holds certs budget n c spent sorted formed h so_it_is = absurd (cc)
-
-both : (a b : Bool) → (a && b) ≡ true → (a ≡ true) × (b ≡ true)
-both true b e = (refl, e)
-both false b e = absurd (cc)
 
 pub closed_is_true : ClosedIsTrue
 closed_is_true certs budget n [] ks sorted formed h so_it_is = tt

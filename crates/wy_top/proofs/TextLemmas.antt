@@ -1,14 +1,14 @@
 -- The text of a source as a step.
 use Rattle.std.proofs.Common.{◌≡◌, ℕ, List, false, IsTrue, Ok, Err}
-use Rattle.wy_answers.specs.Calls.{AnswersFault}
-use Rattle.wy_answers.specs.Steps.{Setting, Gives}
-use Rattle.wy_answers.specs.declared.answer.Answer.{Answer}
-use Rattle.wy_answers.proofs.CallLemmas.{called_value, called_fault}
-use Rattle.wy_texts.specs.Refusals.{is_no_memory}
-use Rattle.wy_texts.specs.Refusal.{Refusal}
-use Rattle.wy_texts.specs.Again.{IsAgain}
-use Rattle.wy_texts.specs.Texts.{IsDue, IsRefused, IsText}
-use Rattle.wy_texts.specs.declared.kind.Kind.{Kind}
+use Rattle.wy_top_answers.specs.Calls.{AnswersFault}
+use Rattle.wy_top_answers.specs.Steps.{Setting, Gives}
+use Rattle.wy_top_answers.specs.declared.answer.Answer.{Answer}
+use Rattle.wy_top_answers.proofs.CallLemmas.{called_value, called_fault}
+use Rattle.wy_top_source.specs.texts.Refusals.{is_no_memory}
+use Rattle.wy_top_source.specs.texts.Refusal.{Refusal}
+use Rattle.wy_top_source.specs.texts.Again.{IsAgain}
+use Rattle.wy_top_source.specs.texts.Texts.{IsDue, IsRefused, IsText}
+use Rattle.wy_top_source.specs.declared.texts.kind.Kind.{Kind}
 use Rattle.wy_top.specs.Texts.{fault_lines, has_text, is_faulted, program_text, source_faults}
 
 pub text_value : (s : Setting) (kind : Kind) (name bytes t : List ℕ) → IsText kind bytes t → IsAgain kind bytes t → ((u : List ℕ) → IsText kind bytes u → t ≡ u) → ((f : Refusal) → IsDue kind bytes f → ⊥)

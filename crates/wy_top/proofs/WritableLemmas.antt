@@ -4,11 +4,11 @@ use Rattle.std.specs.Prelude.{◌==◌, ◌||◌, Ok}
 use Rattle.std.proofs.lemmas.Bool.Decides.{nat_tests}
 use Rattle.wy_cert.specs.File.{ReadsFile, is_listed}
 use Rattle.wy_cert.specs.Steps.{Certificates, Written}
-use Rattle.wy_cert_text.specs.Text.{file_text}
-use Rattle.wy_writable.specs.Writable.{AreWritableBehind}
-use Rattle.wy_writable.proofs.RereadLemmas.{written_is_read}
+use Rattle.wy_cert.specs.writing.Text.{file_text}
+use Rattle.wy_prove.specs.wy_prove_writable.Writable.{AreWritableBehind}
+use Rattle.wy_prove.proofs.wy_prove_writable_proofs.RereadLemmas.{written_is_read}
 use Rattle.wy_term.specs.Condition.{Condition}
-use Rattle.wy_writable.proofs.TreeLemmas.{valid_is_one_tree}
+use Rattle.wy_prove.proofs.wy_prove_writable_proofs.TreeLemmas.{valid_is_one_tree}
 use Rattle.wy_top.specs.Found.{AreFor, Begin, Shows}
 use Rattle.wy_top.specs.Known.{End, Known, found, spent, stays_open, supplied}
 

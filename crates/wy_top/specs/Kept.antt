@@ -1,21 +1,21 @@
 -- What the code keeps of a program and of what it owes.
 use Rattle.std.specs.Prelude.{◌≡◌, ◌≤◌, ℕ, List, All, length, map}
-use Rattle.wy_checking.specs.Within.{IsWithin}
+use Rattle.wy_check.specs.Within.{IsWithin}
 use Rattle.wy_top.specs.Acceptance.{Acceptance, AreVerdicts}
 use Rattle.wy_top.specs.Programs.{Program, conditions_of}
 use Rattle.wy_top.specs.declared.accepting.Accepted.{Accepted}
 use Rattle.wy_top.specs.declared.judging.Judged.{Judged}
 use Rattle.wy_top.specs.declared.owing.Owed.{Owed}
 use Rattle.wy_top.specs.declared.proving.Proof.{Proof}
-use Rattle.wy_answers.specs.declared.answer.Answer.{Answer}
-use Rattle.wy_assign.specs.Assigned.{IsAssigned}
-use Rattle.wy_conditions.specs.Limits.{most_conditions}
+use Rattle.wy_top_answers.specs.declared.answer.Answer.{Answer}
+use Rattle.wy_top_source.specs.wy_assign.Assigned.{IsAssigned}
+use Rattle.wy_vc.specs.wy_vc_spec.Limits.{most_conditions}
 use Rattle.wy_cert.specs.Steps.{Certificates}
 use Rattle.wy_top.specs.Owed.{Owes, told_by}
-use Rattle.wy_shown_conditions.specs.Certified.{AllHold, AreFormed}
+use Rattle.wy_top_answers.specs.wy_vc_laws.shown.Certified.{AllHold, AreFormed}
 use Rattle.wy_term.specs.Condition.{condition_of}
 use Rattle.wy_term.specs.Nodes.{Plain}
-use Rattle.wy_typing.specs.TypedPrograms.{core_of, flow_of}
+use Rattle.wy_flow_spec.specs.typing.TypedPrograms.{core_of, flow_of}
 use Rattle.wy_vc.specs.Listed.{seen_conds}
 use Rattle.wy_vc.specs.Told.{seen_cond}
 use Rattle.wy_top.specs.Seen.{NameTerms, known}

@@ -2,11 +2,11 @@
 use Rattle.std.specs.Prelude.{◌≡◌, ℕ, ◌+◌, suc, List, [], ◌∷◌, Bool, true, false, if◌then◌else◌, Option, Some, None}
 use Rattle.wy_term.specs.Condition.{Condition}
 use Rattle.wy_cert.specs.Steps.{Certificates}
-use Rattle.wy_judge.specs.Node.{Literal}
-use Rattle.wy_search.specs.Tree as search
-use Rattle.wy_checking.specs.Verdicts.{certificate_for, verdict_on}
-use Rattle.wy_checking.specs.declared.verdict.Verdict.{Verdict}
-use Rattle.wy_checking.specs.declared.verdict.Verdict.TheVariants.{Supplied, Missing, Bad}
+use Rattle.wy_top_answers.specs.wy_check_spec.judge.Node.{Literal}
+use Rattle.wy_prove.specs.wy_search_spec.Tree as search
+use Rattle.wy_check.specs.Verdicts.{certificate_for, verdict_on}
+use Rattle.wy_check.specs.declared.verdict.Verdict.{Verdict}
+use Rattle.wy_check.specs.declared.verdict.Verdict.TheVariants.{Supplied, Missing, Bad}
 
 -- how it ends with a condition: a valid certificate was supplied, or else the search ends so
 pub data End : Type 0 where

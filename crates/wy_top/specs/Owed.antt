@@ -1,13 +1,13 @@
 -- Which text the list of a source's conditions has, and for what there is none.
 use Rattle.std.specs.Prelude.{◌≡◌, ℕ, suc, List, [], ◌∷◌, ◌++◌, map}
-use Rattle.wy_conditions.specs.Limits.{Passing, Within, TooMany, TooLarge, passing}
-use Rattle.wy_conditions.specs.Numbered.{numbered_core}
-use Rattle.wy_conditions.specs.Programs.{conditions_of, setting_of}
+use Rattle.wy_vc.specs.wy_vc_spec.Limits.{Passing, Within, TooMany, TooLarge, passing}
+use Rattle.wy_vc.specs.wy_vc_spec.Numbered.{numbered_core}
+use Rattle.wy_vc.specs.wy_vc_spec.Programs.{conditions_of, setting_of}
 use Rattle.wy_core.specs.CoreTree.{Core}
 use Rattle.wy_core.specs.Types.{Ty}
-use Rattle.wy_front.specs.Places.{place_of}
-use Rattle.wy_report.specs.Listing.{listed}
-use Rattle.wy_texts.specs.Sources as sources
+use Rattle.wy_parse_front.specs.Places.{place_of}
+use Rattle.wy_top_answers.specs.report.Listing.{listed}
+use Rattle.wy_top_source.specs.texts.Sources as sources
 use Rattle.wy_term.specs.Condition.{word_of}
 use Rattle.wy_vc.specs.declared.fault.VcFault.{VcFault}
 use Rattle.wy_vc.specs.declared.fault.VcFault.TheVariants.{TooManyConds, TooManyTerms, NoMemory}

@@ -1,8 +1,8 @@
 -- What the code's verdicts stand for, and what comes with them.
 use Rattle.std.specs.Prelude.{List, [], ◌∷◌, length, map}
 use Rattle.wy_term.specs.Nodes.{tree_at}
-use Rattle.wy_judging.specs.Seen.{seen_literal, AreOver}
-use Rattle.wy_certifying.specs.Seen.{seen_why}
+use Rattle.wy_prove.specs.wy_check_nodes.Seen.{seen_literal, AreOver}
+use Rattle.wy_prove.specs.Seen.{seen_why}
 use Rattle.wy_top.specs.Known as plain
 use Rattle.wy_top.specs.Known.{Known}
 use Rattle.wy_top.specs.declared.verdict.End.{End}

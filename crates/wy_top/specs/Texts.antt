@@ -1,19 +1,19 @@
 -- What do the commands come to that write a text of a source?
 use Rattle.std.specs.Prelude.{ℕ, List}
 use Rattle.wy_top.specs.Programs.{lists}
-use Rattle.wy_answers.specs.Answers.{written}
-use Rattle.wy_answers.specs.Calls.{Faults, called}
-use Rattle.wy_answers.specs.Loading.{loaded, source_limit}
-use Rattle.wy_answers.specs.Steps.{Came, Sense, stated, due, Setting, and_then, both, done}
-use Rattle.wy_answers.specs.declared.answer.Answer.{Answer}
-use Rattle.wy_front.specs.Places.{place_of}
-use Rattle.wy_report.specs.Lines.{source_fault}
-use Rattle.wy_texts.specs.Refusals.{is_no_memory, offset, word}
-use Rattle.wy_texts.specs.Refusal.{Refusal}
-use Rattle.wy_texts.specs.Again.{IsAgain}
-use Rattle.wy_texts.specs.Texts.{IsDue, IsRefused, IsText}
-use Rattle.wy_texts.specs.declared.kind.Kind.{Kind}
-use Rattle.wy_texts.specs.declared.kind.Kind.TheVariants.{Layout, Listing}
+use Rattle.wy_top_answers.specs.Answers.{written}
+use Rattle.wy_top_answers.specs.Calls.{Faults, called}
+use Rattle.wy_top_answers.specs.Loading.{loaded, source_limit}
+use Rattle.wy_top_answers.specs.Steps.{Came, Sense, stated, due, Setting, and_then, both, done}
+use Rattle.wy_top_answers.specs.declared.answer.Answer.{Answer}
+use Rattle.wy_parse_front.specs.Places.{place_of}
+use Rattle.wy_top_answers.specs.report.Lines.{source_fault}
+use Rattle.wy_top_source.specs.texts.Refusals.{is_no_memory, offset, word}
+use Rattle.wy_top_source.specs.texts.Refusal.{Refusal}
+use Rattle.wy_top_source.specs.texts.Again.{IsAgain}
+use Rattle.wy_top_source.specs.texts.Texts.{IsDue, IsRefused, IsText}
+use Rattle.wy_top_source.specs.declared.texts.kind.Kind.{Kind}
+use Rattle.wy_top_source.specs.declared.texts.kind.Kind.TheVariants.{Layout, Listing}
 use Rattle.wy_top.specs.declared.texts.Text.{Text}
 use Rattle.wy_top.specs.declared.texts.Text.TheVariants as kind_of
 

@@ -3,12 +3,12 @@ ghost use Rattle.std.specs.Prelude.{◌≡◌, ◌≤◌, ◌<◌, ◌^◌, ◌+
 ghost use Rattle.wy_top.specs.Acceptance as spec;
 ghost use Rattle.wy_top.specs.Kept.{AreEach, HasVerdicts, IsKept, IsOfSource, IsWhole, acceptance_in, judged_program, program_in};
 ghost use Rattle.wy_top.specs.Programs.{Program};
-ghost use Rattle.wy_answers.specs.Answers.{IsRefusal};
-ghost use Rattle.wy_answers.specs.Steps.{During, Gives, Setting, came};
+ghost use Rattle.wy_top_answers.specs.Answers.{IsRefusal};
+ghost use Rattle.wy_top_answers.specs.Steps.{During, Gives, Setting, came};
 ghost use Rattle.wy_cert.specs.Steps.{Certificates, NameTheirTerms, certificates_of};
 ghost use Rattle.wy_top.specs.Owed.{told_by};
 ghost use Rattle.wy_top.specs.Refusals as refusals;
-ghost use Rattle.wy_shown_conditions.specs.ReadSorted.{AreSortedCertificates};
+ghost use Rattle.wy_top_answers.specs.wy_vc_laws.shown.ReadSorted.{AreSortedCertificates};
 ghost use Rattle.wy_top.specs.Seen.{known};
 
 use crate::counting::are_closed;
@@ -17,12 +17,12 @@ use crate::judging::{Judged, judge_all};
 use crate::owing::{Owed, owed_by};
 use crate::refusing::refusal_lines;
 use std::alloc::Global;
-use wy_answers::{Answer, SOURCE_LIMIT, load, no_memory};
 use wy_cert::Certs;
 use wy_data::Bytes;
+use wy_flow_spec::typing::Typed;
 use wy_port::Files;
-use wy_supplied::certificates;
-use wy_typing::Typed;
+use wy_top_answers::supplied::certificates;
+use wy_top_answers::{Answer, SOURCE_LIMIT, load, no_memory};
 
 /// A program for each condition of which a valid certificate was supplied, or the search closed all leaves.
 #[derive(Drop)]

@@ -1,10 +1,10 @@
 //! What the code of a source is, as a law. No function here does anything when it runs.
 ghost use Rattle.std.specs.Prelude.{List, ℕ};
-ghost use Rattle.wy_code_ints.specs.Loadable.{IsLoadable};
-ghost use Rattle.wy_compiled.specs.Programs.{code_of};
+ghost use Rattle.wy_gen_sources.specs.wy_code_spec.ints.Loadable.{IsLoadable};
+ghost use Rattle.wy_gen_sources.specs.wy_code_spec.compiled.Programs.{code_of};
 ghost use Rattle.wy_core.specs.CoreTree.{Core};
 ghost use Rattle.wy_core.specs.Types.{Ty};
-ghost use Rattle.wy_texts.specs.Sources.{IsProgram};
+ghost use Rattle.wy_top_source.specs.texts.Sources.{IsProgram};
 
 /// The code of the program that a source has is such as a machine takes.
 pub fn the_code_of_a_source_is_loadable()

@@ -1,12 +1,12 @@
 //! The commands: from words to a status and to what the sinks take.
 ghost use Rattle.std.specs.Prelude.{◌≡◌, ◌≢◌, ◌≤◌, ℕ, List, Some};
-ghost use Rattle.wy_answers.specs.Showing.{sinks};
-ghost use Rattle.wy_answers.specs.Steps.{setting};
+ghost use Rattle.wy_top_answers.specs.Showing.{sinks};
+ghost use Rattle.wy_top_answers.specs.Steps.{setting};
 ghost use Rattle.wy_top.specs.Going.{AcceptedRunsGo};
 ghost use Rattle.wy_top.specs.Saves.{saving};
 ghost use Rattle.wy_top.specs.Statement.{Comes, Does, IsKeptBy, saved_name};
-ghost use Rattle.wy_words.specs.CommandLine.{command_of};
-ghost use Rattle.wy_words.specs.Plain.{asked_in, words_in};
+ghost use Rattle.wy_top_words.specs.CommandLine.{command_of};
+ghost use Rattle.wy_top_words.specs.Plain.{asked_in, words_in};
 
 use crate::checking::check;
 use crate::launching::launch_file;
@@ -16,10 +16,10 @@ use crate::running::run;
 use crate::saving::save;
 use crate::texts::{Text, text_answer};
 use std::alloc::Global;
-use wy_answers::{no_memory, refusal, show};
 use wy_port::{Files, Sink};
-use wy_report::words_refused;
-use wy_words::{Words, WordsFault, read_words};
+use wy_top_answers::report::words_refused;
+use wy_top_answers::{no_memory, refusal, show};
+use wy_top_words::{Words, WordsFault, read_words};
 
 /// Does what `words` say, over `files`, and answers the exit status. Results go to `out`, refusals to `err`.
 ///

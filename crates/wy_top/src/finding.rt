@@ -1,8 +1,8 @@
 //! The verdicts on a list of conditions.
 ghost use Rattle.std.specs.Prelude.{◌≡◌, ◌<◌, ℕ, All, length, map, IfOk, OnOk};
-ghost use Rattle.wy_certifying.specs.Carried.{IsCarried};
-ghost use Rattle.wy_checking.specs.Verdicts.{certificate_for, verdict_on, verdicts_on};
-ghost use Rattle.wy_checking.specs.Within.{IsWithin};
+ghost use Rattle.wy_prove.specs.Carried.{IsCarried};
+ghost use Rattle.wy_check.specs.Verdicts.{certificate_for, verdict_on, verdicts_on};
+ghost use Rattle.wy_check.specs.Within.{IsWithin};
 ghost use Rattle.wy_cert.specs.Steps.{Certificates, certificates_of, NameTheirTerms};
 ghost use Rattle.wy_term.specs.Condition.{condition_of};
 ghost use Rattle.wy_term.specs.Nodes.{tree_at};
@@ -13,8 +13,8 @@ ghost use Rattle.wy_top.specs.Seen.{known, NameTerms};
 use crate::verdict::{End, Verdict};
 use std::alloc::Global;
 use wy_cert::Certs;
-use wy_certifying::{Carried, Verdict as Searched, nothing_carried, search};
-use wy_checking::{Verdict as Given, verdicts};
+use wy_check::{Verdict as Given, verdicts};
+use wy_prove::{Carried, Verdict as Searched, nothing_carried, search};
 use wy_term::{Cond, NoMemory, Terms};
 
 /// What is known of each condition, in order, where these certificates are supplied, each for the condition with its number, from 1:

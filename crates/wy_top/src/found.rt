@@ -1,8 +1,8 @@
 //! Certificates for the conditions that were found.
 ghost use Rattle.std.specs.Prelude.{◌≡◌, ◌<◌, ◌^◌, ℕ, All, None, true, length, map, IfOk, IfSome};
 ghost use Rattle.wy_cert.specs.Steps.{certificates_of, NameTheirTerms};
-ghost use Rattle.wy_certifying.specs.Answers.{AnswersWhatIsFound};
-ghost use Rattle.wy_checking.specs.Within.{IsWithin};
+ghost use Rattle.wy_prove.specs.Answers.{AnswersWhatIsFound};
+ghost use Rattle.wy_check.specs.Within.{IsWithin};
 ghost use Rattle.wy_term.specs.Condition.{condition_of};
 ghost use Rattle.wy_term.specs.Nodes.{tree_at};
 ghost use Rattle.wy_top.specs.Found as spec;
@@ -12,7 +12,7 @@ ghost use Rattle.wy_top.specs.Seen.{known, seen_end};
 use crate::verdict::{End, Verdict};
 use std::alloc::Global;
 use wy_cert::Certs;
-use wy_certifying::certified;
+use wy_prove::certified;
 use wy_term::{Cond, NoMemory, Terms};
 
 /// A valid certificate for each condition whose search closed all leaves, with its number, from 1, in order; none where one of them gets

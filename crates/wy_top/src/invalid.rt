@@ -5,8 +5,8 @@ ghost use Rattle.wy_top.specs.Seen.{known};
 
 use crate::verdict::Verdict;
 use std::alloc::Global;
-use wy_report::invalid_step;
 use wy_term::NoMemory;
+use wy_top_answers::report::invalid_step;
 
 /// A line for each condition whose certificate in this file isn't valid, in order: the number of its first bad step. In time linear in
 /// the conditions and the text.

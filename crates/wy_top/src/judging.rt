@@ -1,17 +1,17 @@
 //! The verdicts on what a program owes.
 ghost use Rattle.std.specs.Prelude.{◌≡◌, IfOk, IfErr};
 ghost use Rattle.wy_top.specs.Kept.{AreEach, HasVerdicts, IsKept, program_in};
-ghost use Rattle.wy_answers.specs.Answers as answers;
+ghost use Rattle.wy_top_answers.specs.Answers as answers;
 ghost use Rattle.wy_cert.specs.Steps.{NameTheirTerms, certificates_of};
 
 use crate::finding::judge;
 use crate::owing::Owed;
 use crate::verdict::Verdict;
 use std::alloc::Global;
-use wy_answers::{Answer, no_memory};
 use wy_cert::Certs;
+use wy_flow_spec::typing::Typed;
 use wy_term::Conds;
-use wy_typing::Typed;
+use wy_top_answers::{Answer, no_memory};
 
 /// A program with what it owes and what is known of each condition.
 #[derive(Drop)]

@@ -1,15 +1,15 @@
 //! The text of a list of conditions.
 ghost use Rattle.std.specs.Prelude.{◌≡◌, ◌<◌, ◌^◌, All, IfOk, OnOk, ◌++◌, ℕ, List, length, map};
-ghost use Rattle.wy_checking.specs.Within.{IsWithin};
-ghost use Rattle.wy_lines.specs.Starts.{AreLines};
-ghost use Rattle.wy_report.specs.Shown.{AreShown};
+ghost use Rattle.wy_check.specs.Within.{IsWithin};
+ghost use Rattle.wy_parse_front.specs.lines.Starts.{AreLines};
+ghost use Rattle.wy_top_answers.specs.report.Shown.{AreShown};
 ghost use Rattle.wy_top.specs.Owed as spec;
 ghost use Rattle.wy_vc.specs.Told.{seen_cond};
 
 use std::alloc::Global;
-use wy_lines::Lines;
-use wy_report::{Shown, listed, nothing_shown};
+use wy_parse_front::lines::Lines;
 use wy_term::{Cond, Conds, NoMemory, Terms};
+use wy_top_answers::report::{Shown, listed, nothing_shown};
 
 /// The conditions in order, each with its number from 1, its kind, the line and the column of the construct that owes it, its
 /// hypotheses and its goal. The text of each formula is made once, and copied where it stands again: so the time is linear in the source and

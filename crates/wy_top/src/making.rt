@@ -2,20 +2,20 @@
 ghost use Rattle.std.specs.Prelude.{◌≡◌, ◌≤◌, ◌<◌, ◌^◌, ℕ, List, length, IfOk, IfSome};
 ghost use Rattle.std.specs.String.{string_bytes};
 ghost use Rattle.wy_top.specs.Kept.{IsWhole, acceptance_in};
-ghost use Rattle.wy_answers.specs.Steps.{Answers, During, Gives, Setting};
-ghost use Rattle.wy_running.specs.Running.{CanRun};
+ghost use Rattle.wy_top_answers.specs.Steps.{Answers, During, Gives, Setting};
+ghost use Rattle.wy_mach_run.specs.Running.{CanRun};
 ghost use Rattle.wy_top.specs.Going.{AcceptedRunsGo};
 ghost use Rattle.wy_top.specs.Large as spec;
 
 use crate::accepting::{Accepted, accept_source};
 use crate::launching::{Launch, launched};
 use std::alloc::{AllocError, Global};
-use wy_answers::{Answer, SOURCE_LIMIT, no_memory, refusal};
-use wy_big::{argument_text, entry, source_of};
 use wy_data::Bytes;
+use wy_mach_run::{RunEnd, run_start};
 use wy_port::{Files, MemSink};
-use wy_report::steps_spent;
-use wy_running::{RunEnd, run_start};
+use wy_top_answers::report::steps_spent;
+use wy_top_answers::{Answer, SOURCE_LIMIT, no_memory, refusal};
+use wy_top_big::{argument_text, entry, source_of};
 
 /// The most bytes that the run writes: those of a number and a line end.
 const ROOM: usize = 64;

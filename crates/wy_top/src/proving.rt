@@ -1,14 +1,14 @@
 //! What the command `prove` makes of a source.
 ghost use Rattle.std.specs.Prelude.{◌≡◌, ◌≤◌, ◌<◌, ◌^◌, [], ℕ, List, length, map, IfOk, IfErr};
-ghost use Rattle.wy_answers.specs.Answers as answers;
-ghost use Rattle.wy_answers.specs.Answers.{IsRefusal};
-ghost use Rattle.wy_answers.specs.Texts.{not_certified};
+ghost use Rattle.wy_top_answers.specs.Answers as answers;
+ghost use Rattle.wy_top_answers.specs.Answers.{IsRefusal};
+ghost use Rattle.wy_top_answers.specs.Texts.{not_certified};
 ghost use Rattle.wy_cert.specs.Steps.{NameTheirTerms, certificates_of};
 ghost use Rattle.wy_top.specs.Kept.{AreEach, HasVerdicts, IsKept, answer_in, program_in};
 ghost use Rattle.wy_top.specs.Programs.{Program};
 ghost use Rattle.wy_top.specs.Proofs as spec;
-ghost use Rattle.wy_answers.specs.Steps.{During, Gives, Setting, came};
-ghost use Rattle.wy_cert_text.specs.Text.{file_text};
+ghost use Rattle.wy_top_answers.specs.Steps.{During, Gives, Setting, came};
+ghost use Rattle.wy_cert.specs.writing.Text.{file_text};
 ghost use Rattle.wy_top.specs.Acceptance.{are_closed as are_closed_in};
 ghost use Rattle.wy_top.specs.Seen.{known};
 
@@ -18,13 +18,13 @@ use crate::judging::{Judged, judge_all};
 use crate::owing::{Owed, owed_by};
 use crate::refusing::refusal_lines;
 use std::alloc::Global;
-use wy_answers::{Answer, SOURCE_LIMIT, load, no_memory, refusal};
 use wy_cert::Certs;
-use wy_cert_text::write_certs;
+use wy_cert::writing::write_certs;
 use wy_data::Bytes;
 use wy_port::Files;
-use wy_report::accepted as accepted_line;
 use wy_term::NoMemory;
+use wy_top_answers::report::accepted as accepted_line;
+use wy_top_answers::{Answer, SOURCE_LIMIT, load, no_memory, refusal};
 
 /// What `prove` saves, and what it answers behind the save.
 #[derive(Drop)]

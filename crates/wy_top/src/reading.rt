@@ -1,25 +1,25 @@
 //! The conditions that the program of a source owes.
 ghost use Rattle.std.specs.Prelude.{◌≡◌, ◌<◌, ◌≤◌, ◌^◌, ℕ, List, All, length, map, false, IsTrue, IfOk, IfErr, MatchResult};
-ghost use Rattle.wy_checking.specs.Within.{IsWithin};
-ghost use Rattle.wy_assign.specs.Assigned.{IsAssigned};
-ghost use Rattle.wy_conditions.specs.Limits.{most_conditions};
+ghost use Rattle.wy_check.specs.Within.{IsWithin};
+ghost use Rattle.wy_top_source.specs.wy_assign.Assigned.{IsAssigned};
+ghost use Rattle.wy_vc.specs.wy_vc_spec.Limits.{most_conditions};
 ghost use Rattle.wy_core.specs.CoreTree as tree;
 ghost use Rattle.wy_core.specs.Types as types;
-ghost use Rattle.wy_formed_conditions.specs.OwedConditions.{owed_conditions};
+ghost use Rattle.wy_top_answers.specs.wy_sound_terms.formed.OwedConditions.{owed_conditions};
 ghost use Rattle.wy_top.specs.Faults.{is_no_memory};
 ghost use Rattle.wy_top.specs.Owed.{IsDue, IsRefused, Owes, told_by};
 ghost use Rattle.wy_top.specs.declared.fault.OwedFault.{OwedFault};
-ghost use Rattle.wy_shown_conditions.specs.Certified.{AreFormed};
-ghost use Rattle.wy_texts.specs.Sources.{IsFormed};
+ghost use Rattle.wy_top_answers.specs.wy_vc_laws.shown.Certified.{AreFormed};
+ghost use Rattle.wy_top_source.specs.texts.Sources.{IsFormed};
 ghost use Rattle.wy_term.specs.Condition.{condition_of};
-ghost use Rattle.wy_typing.specs.TypedPrograms.{core_of, flow_of};
+ghost use Rattle.wy_flow_spec.specs.typing.TypedPrograms.{core_of, flow_of};
 ghost use Rattle.wy_vc.specs.Listed.{seen_conds};
 
 use crate::fault::OwedFault;
 use std::alloc::Global;
+use wy_flow_spec::typing::Typed;
 use wy_term::Conds;
-use wy_texts::read_program;
-use wy_typing::Typed;
+use wy_top_source::texts::read_program;
 use wy_vc::conditions;
 
 /// The typed and assigned program that the bytes spell, and the conditions that it owes, in order. The source is refused first; then

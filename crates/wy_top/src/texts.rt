@@ -1,19 +1,19 @@
 //! The commands that write a text of a source: `fmt`, `dis` and `conds`.
 ghost use Rattle.std.specs.Prelude.{◌≡◌, ◌≤◌, ◌<◌, ◌^◌, ℕ, List, length, IfOk};
 ghost use Rattle.std.specs.String.{string_bytes};
-ghost use Rattle.wy_answers.specs.Calls.{AnswersFault};
-ghost use Rattle.wy_answers.specs.Steps.{Answers, During, Gives, Setting};
-ghost use Rattle.wy_texts.specs.Refusals as refusals;
+ghost use Rattle.wy_top_answers.specs.Calls.{AnswersFault};
+ghost use Rattle.wy_top_answers.specs.Steps.{Answers, During, Gives, Setting};
+ghost use Rattle.wy_top_source.specs.texts.Refusals as refusals;
 ghost use Rattle.wy_top.specs.Texts as spec;
 
 use crate::owing::listed;
 use std::alloc::{AllocError, Global};
-use wy_answers::{Answer, SOURCE_LIMIT, load, no_memory, refusal};
 use wy_data::Bytes;
-use wy_front::locate;
+use wy_parse_front::locate;
 use wy_port::Files;
-use wy_report::source_fault;
-use wy_texts::{Kind, Refusal, is_no_memory, offset, text_of, word};
+use wy_top_answers::report::source_fault;
+use wy_top_answers::{Answer, SOURCE_LIMIT, load, no_memory, refusal};
+use wy_top_source::texts::{Kind, Refusal, is_no_memory, offset, text_of, word};
 
 /// A text of a source.
 #[derive(Clone, Copy, Debug)]

@@ -4,7 +4,7 @@ ghost use Rattle.wy_top.specs.Acceptance as acceptance;
 ghost use Rattle.wy_top.specs.Known as known;
 ghost use Rattle.wy_top.specs.Seen as seen;
 
-use wy_certifying::OpenLeaf;
+use wy_prove::OpenLeaf;
 
 /// How it ends with a condition.
 #[derive(Drop)]

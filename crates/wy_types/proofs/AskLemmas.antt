@@ -1,10 +1,11 @@
 -- A part has a value exactly where what it asks has values.
-use Rattle.std.proofs.Common.{◌≡◌, ℕ, zero, suc, ◌+◌, ◌<◌, pos, List, [], ◌∷◌, ◌++◌, length, Bool, true, false, cond, not, ◌&&◌, ◌||◌, refl, sym, ap, ◌∙◌, inl, inr, ◌⊎◌, arith}
+use Rattle.std.proofs.Common.{◌≡◌, ℕ, zero, suc, ◌+◌, ◌<◌, pos, List, [], ◌∷◌, ◌++◌, length, Bool, true, false, cond, not, ◌&&◌, ◌||◌, refl, sym, ap, ◌∙◌, inl, inr, arith}
 use Rattle.std.specs.Str.{bytes_eq}
-use Rattle.std.proofs.lemmas.Slice.Eq.{bytes_eq-Decides}
-use Rattle.wy_value.specs.Datum.{Datum, Data, Fields, no_items, item, no_fields, field}
-use Rattle.wy_value.specs.Datum as datum
-use Rattle.wy_value.specs.Values.{names_of}
+use Rattle.wy_core.proofs.wy_lemmas_proofs.Choices.{and_false, and_end as and_true, or_none as or_false, or_true, not_true, both_parts as both, both_true as two_true, and_assoc, or_assoc}
+use Rattle.wy_core.proofs.wy_lemmas_proofs.Lists.{bytes_self}
+use Rattle.wy_core.specs.wy_value.Datum.{Datum, Data, Fields, no_items, item, no_fields, field}
+use Rattle.wy_core.specs.wy_value.Datum as datum
+use Rattle.wy_core.specs.wy_value.Values.{names_of}
 use Rattle.wy_types.specs.declared.conjuncts.Signed.{Signed}
 use Rattle.wy_types.specs.declared.conjuncts.Part.{Part}
 use Rattle.wy_types.specs.declared.conjuncts.Atom.{Atom}
@@ -18,27 +19,20 @@ use Rattle.wy_types.specs.Ranked.{IsLawful, IsRanked, HasLaws}
 use Rattle.wy_types.specs.Merge.{same_names}
 use Rattle.wy_types.specs.Conjuncts.{dnf_part}
 use Rattle.wy_types.specs.Asks.{with_denied, asked, asked_each, spread_field, put_first, spread, spread_by, spread_each, ways_from, alone, all_alone, always, names_only, options_of, all_options, options, HasValue, IsMet}
-use Rattle.wy_types.proofs.TruthLemmas.{and_true, and_false, or_false, or_true, and_assoc, or_assoc, or_and, both, two_true}
-use Rattle.wy_types.proofs.ClaimLemmas.{some_map, each_map, some_left, some_right, some_split}
+use Rattle.wy_types.proofs.TruthLemmas.{or_and}
+use Rattle.wy_types.proofs.ClaimLemmas.{some_map, each_map, some_left, some_right}
 use Rattle.wy_types.specs.NodeLaws.{bytes_are}
 use Rattle.wy_types.proofs.MeetLemmas.{fields_in-other_names}
-use Rattle.wy_types.proofs.RankedLemmas.{is_lawful, has_laws}
+use Rattle.wy_types.proofs.RankedLemmas.{is_lawful}
 use Rattle.wy_types.proofs.TermLemmas.{part_in-with_sides, any_in-dnf_part}
 
 -- ---- signs
 
-denied : (a b : Bool) → signed_as a (not b) ≡ not (signed_as a b)
+pub denied : (a b : Bool) → signed_as a (not b) ≡ not (signed_as a b)
 denied true true = refl
 denied true false = refl
 denied false true = refl
 denied false false = refl
-
-not_true : (b : Bool) → not b ≡ true → b ≡ false
-not_true true e = absurd cc
-not_true false e = refl
-
-pub bytes_self : (n : List ℕ) → bytes_eq n n ≡ true
-bytes_self n = (bytes_eq-Decides n n).1 refl
 
 -- ---- more items keep the negatives out
 
@@ -63,14 +57,9 @@ abbrev pub some_fields : List (List ℕ) → List (Bool → ℕ → Bool) → Li
 some_fields ns rs [] = false
 some_fields ns rs (w ∷ ws) = fields_in ns rs w || some_fields ns rs ws
 
-some_fields-append : (ns : List (List ℕ)) (rs : List (Bool → ℕ → Bool)) (xs ys : List (List (List ℕ × Part ℕ))) → some_fields ns rs (xs ++ ys) ≡ (some_fields ns rs xs || some_fields ns rs ys)
+pub some_fields-append : (ns : List (List ℕ)) (rs : List (Bool → ℕ → Bool)) (xs ys : List (List (List ℕ × Part ℕ))) → some_fields ns rs (xs ++ ys) ≡ (some_fields ns rs xs || some_fields ns rs ys)
 some_fields-append ns rs [] ys = refl
 some_fields-append ns rs (x ∷ xs) ys = ap (λ b. fields_in ns rs x || b) (some_fields-append ns rs xs ys) ∙ sym (or_assoc (fields_in ns rs x) (some_fields ns rs xs) (some_fields ns rs ys))
-
--- the names of the fields
-abbrev pub field_names : List (List ℕ × Part ℕ) → List (List ℕ)
-field_names [] = []
-field_names (f ∷ fs) = f.0 ∷ field_names fs
 
 one_field : (a b p q s t : Bool) → a ≡ b → ((a && ((p && not q) && s)) || (a && (p && (s && not t)))) ≡ ((a && (p && s)) && not (b && (q && t)))
 one_field true true p q s t e = by p q s t
@@ -148,7 +137,7 @@ always_met : (P : List (Signed ℕ) → Type 0) (b : Bool) → b ≡ true → Is
 always_met P true e = inl tt
 always_met P false e = absurd cc
 
-met_always : (P : List (Signed ℕ) → Type 0) (b : Bool) → IsMet P (always b) → b ≡ true
+pub met_always : (P : List (Signed ℕ) → Type 0) (b : Bool) → IsMet P (always b) → b ≡ true
 met_always P true h = refl
 met_always P false h = absurd h
 
@@ -472,26 +461,3 @@ module _ (table : Table) (rank : ℕ → ℕ) (k : ℕ) (ranked : IsRanked table
       let x : List ℕ = letters (suc (name_bound negatives)) in
       let long : name_bound negatives < length x = (let e = length-letters (suc (name_bound negatives)) in omega (arith, e)) in
       (datum.Record (field x datum.Null no_fields), fresh_name x (member table k datum.Null) negatives long (met_always (HasValue table k) (names_only negatives) h))
-
-  all_options-value : (cs : List (Conjunct ℕ)) → IsMet (HasValue table k) (all_options table k cs) → (d : Datum) × (any_in (shape_of table k d) cs ≡ true)
-  all_options-value [] h = absurd h
-  all_options-value (c ∷ cs) h = by (some_split (EachOf (SomeOf (HasValue table k))) (options_of table k c.positive c.negatives) (all_options table k cs) h) (λ g. all_options-value cs g)
-    where
-      left_true : (a b : Bool) → a ≡ true → (a || b) ≡ true
-      left_true true b e = refl
-      left_true false b e = absurd cc
-
-      right_true : (a b : Bool) → b ≡ true → (a || b) ≡ true
-      right_true true b e = refl
-      right_true false b e = e
-
-      by : IsMet (HasValue table k) (options_of table k c.positive c.negatives) ⊎ IsMet (HasValue table k) (all_options table k cs)
-          → (IsMet (HasValue table k) (all_options table k cs) → (d : Datum) × (any_in (shape_of table k d) cs ≡ true)) → (d : Datum) × (any_in (shape_of table k d) (c ∷ cs) ≡ true)
-      by (inl g) rest = let v = options_of-value c.positive c.negatives g in (v.0, left_true (conjunct_in (shape_of table k v.0) c) (any_in (shape_of table k v.0) cs) v.1)
-      by (inr g) rest = let v = rest g in (v.0, right_true (conjunct_in (shape_of table k v.0) c) (any_in (shape_of table k v.0) cs) v.1)
-
-  -- a part has a value where what it asks has values
-  pub options-value : (p : List (Signed ℕ)) → IsMet (HasValue table k) (options table k p) → HasValue table k p
-  options-value p h =
-      let v = all_options-value (dnf_part table k p) h in
-      (v.0, sym (any_in-dnf_part table k (shape_of table k v.0) (has_laws table rank k ranked v.0) p) ∙ v.1)

@@ -30,14 +30,6 @@ pub each_append : {X : Type 0} (P : X → Type 0) (xs ys : List X) → EachOf P 
 each_append P [] ys h k = k
 each_append P (x ∷ xs) ys h k = (h.0, each_append P xs ys h.1 k)
 
-pub each_left : {X : Type 0} (P : X → Type 0) (xs ys : List X) → EachOf P (xs ++ ys) → EachOf P xs
-each_left P [] ys h = tt
-each_left P (x ∷ xs) ys h = (h.0, each_left P xs ys h.1)
-
-pub each_right : {X : Type 0} (P : X → Type 0) (xs ys : List X) → EachOf P (xs ++ ys) → EachOf P ys
-each_right P [] ys h = h
-each_right P (x ∷ xs) ys h = each_right P xs ys h.1
-
 some_within : {X : Type 0} (A R M : X → Type 0) (xs : List X) → EachOf R xs → ((x : X) → R x → A x → M x) → SomeOf A xs → SomeOf M xs
 some_within A R M [] h f s = s
 some_within A R M (x ∷ xs) h f (inl s) = inl (f x h.0 s)

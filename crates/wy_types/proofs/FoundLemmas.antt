@@ -1,7 +1,7 @@
 -- Over a closed set of parts, a set of marks that is closed has every part with a value.
 use Rattle.std.proofs.Common.{◌≡◌, ℕ, List, true, inl, inr}
-use Rattle.wy_value.specs.Datum.{Datum, Data, Fields, no_items, item, no_fields, field}
-use Rattle.wy_value.specs.Datum as datum
+use Rattle.wy_core.specs.wy_value.Datum.{Datum, Data, Fields, no_items, item, no_fields, field}
+use Rattle.wy_core.specs.wy_value.Datum as datum
 use Rattle.wy_types.specs.declared.conjuncts.Signed.{Signed}
 use Rattle.wy_types.specs.declared.table.Table.{Table}
 use Rattle.wy_types.specs.Shape.{part_in}

@@ -3,10 +3,10 @@ use Rattle.std.proofs.Common.{◌≡◌, ℕ, zero, suc, ◌<◌, List, [], ◌�
 use Rattle.std.specs.Prelude.{slice_get}
 use Rattle.std.proofs.lemmas.Option.{slice_get_within}
 use Rattle.wy_core.specs.Types.{Ty, NullTy, BoolTy, IntTy, AnyTy, VoidTy, RecordTy, ArrayTy, UnionTy, InterTy, NotTy, NamedTy, NormalTy}
+use Rattle.wy_core.proofs.wy_lemmas_proofs.Choices.{both_parts as both}
+use Rattle.wy_core.proofs.wy_lemmas_proofs.Options.{some_one as some_is}
 use Rattle.wy_types.specs.Names.{Declared}
 use Rattle.wy_types.specs.Recursion.{HasBareBelow, RecurThroughParts, is_guarded, are_guarded}
-use Rattle.wy_types.proofs.TruthLemmas.{both}
-use Rattle.wy_types.proofs.PutLemmas.{some_is}
 
 bare : (names : List Declared) (order : ℕ → ℕ) (j : ℕ) (t : Ty) → is_guarded t ≡ true → HasBareBelow names order j t
 bare names order j NullTy e = tt

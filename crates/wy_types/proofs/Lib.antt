@@ -17,3 +17,6 @@ mod SeenLemmas
 pub mod ReadingLemmas
 pub mod GuardLemmas
 pub mod OneNumberLemmas
+pub mod formed_lemmas
+-- passed on to the crates above
+pub use Rattle.wy_core.proofs as wy_core_proofs

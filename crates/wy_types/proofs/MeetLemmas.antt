@@ -1,6 +1,7 @@
 -- What two atoms or conjuncts have in common is what is in both.
 use Rattle.std.proofs.Common.{◌≡◌, ℕ, List, [], ◌∷◌, Bool, true, false, cond, not, ◌&&◌, ◌||◌, refl, sym, ap, ◌∙◌}
 use Rattle.std.specs.Str.{bytes_eq}
+use Rattle.wy_core.proofs.wy_lemmas_proofs.Choices.{and_false, and_end as and_true, or_none as or_false, both_parts as both, both_true as two_true, or_assoc}
 use Rattle.wy_types.specs.declared.conjuncts.Signed.{Signed}
 use Rattle.wy_types.specs.declared.conjuncts.Part.{Part}
 use Rattle.wy_types.specs.declared.conjuncts.Atom.{Atom}
@@ -9,7 +10,7 @@ use Rattle.wy_types.specs.declared.conjuncts.Conjunct.{Conjunct}
 use Rattle.wy_types.specs.Shape.{Shape, NullShape, BoolShape, IntShape, ArrayShape, RecordShape, part_in, each_in, fields_in, record_atom_in, atom_in, none_in, conjunct_in, any_in}
 use Rattle.wy_types.specs.Same.{united, united_atoms}
 use Rattle.wy_types.specs.Merge.{same_names, fits_atom, fitting, kept, united_fields, meet, with_atoms, with_pair, with_pairs, with_merge, merge}
-use Rattle.wy_types.proofs.TruthLemmas.{or_assoc, and_true, and_false, or_false, and_or, or_and, and_swap, both, two_true}
+use Rattle.wy_types.proofs.TruthLemmas.{and_or, or_and, and_swap}
 use Rattle.wy_types.specs.NodeLaws.{bytes_are}
 use Rattle.wy_types.proofs.OnceLemmas.{part_in-united, none_in-united_atoms, any_in-with_conjunct}
 

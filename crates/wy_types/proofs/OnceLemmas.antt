@@ -1,11 +1,11 @@
 -- A list that has each thing once says what the list says.
 use Rattle.std.proofs.Common.{◌≡◌, List, [], ◌∷◌, ◌++◌, Bool, true, false, cond, not, ◌&&◌, ◌||◌, refl, sym, ap, ◌∙◌}
+use Rattle.wy_core.proofs.wy_lemmas_proofs.Choices.{and_end as and_true, or_none as or_false, and_assoc, or_assoc}
 use Rattle.wy_types.specs.declared.conjuncts.Signed.{Signed}
 use Rattle.wy_types.specs.declared.conjuncts.Atom.{Atom}
 use Rattle.wy_types.specs.declared.conjuncts.Conjunct.{Conjunct}
 use Rattle.wy_types.specs.Shape.{Shape, signed_as, part_in, atom_in, none_in, conjunct_in, any_in}
 use Rattle.wy_types.specs.Same.{same_signed, same_atom, same_conjunct, has_signed, has_atom, has_conjunct, with_signed, with_atom, with_conjunct, united, united_atoms, united_conjuncts}
-use Rattle.wy_types.proofs.TruthLemmas.{and_assoc, or_assoc, and_true, or_false}
 use Rattle.wy_types.specs.NodeLaws.{same_signed_is, same_atom_is, same_conjunct_is}
 
 and_again : (a b : Bool) → (a && b) ≡ ((a && b) && a)

@@ -1,11 +1,12 @@
 -- What is taken out is what is not in it.
 use Rattle.std.proofs.Common.{◌≡◌, List, [], ◌∷◌, Bool, true, false, not, ◌&&◌, ◌||◌, refl, sym, ap, ◌∙◌}
+use Rattle.wy_core.proofs.wy_lemmas_proofs.Choices.{and_end as and_true, or_none as or_false, and_assoc}
 use Rattle.wy_types.specs.declared.conjuncts.Atom.{Atom}
 use Rattle.wy_types.specs.declared.conjuncts.Atom.TheVariants as atom
 use Rattle.wy_types.specs.declared.conjuncts.Conjunct.{Conjunct}
 use Rattle.wy_types.specs.Shape.{Shape, NullShape, BoolShape, IntShape, ArrayShape, RecordShape, signed_as, each_in, fields_in, atom_in, none_in, conjunct_in, any_in}
 use Rattle.wy_types.specs.Merge.{plain, kinds, taken_out, atom_or_out, nothing_or_all, all_or_nothing, merge, either, with_plains, conjunct_out, merge_outs, normal_or_out}
-use Rattle.wy_types.proofs.TruthLemmas.{and_assoc, and_true, or_false, not_and, not_or}
+use Rattle.wy_types.proofs.TruthLemmas.{not_and, not_or}
 use Rattle.wy_types.proofs.OnceLemmas.{any_in-with_conjunct, any_in-united_conjuncts}
 use Rattle.wy_types.proofs.MeetLemmas.{any_in-merge}
 

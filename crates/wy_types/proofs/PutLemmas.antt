@@ -1,7 +1,10 @@
 -- A node that is put into a list stands there once; a type that is put in has a number that stands for it.
-use Rattle.std.proofs.Common.{◌≡◌, ℕ, zero, suc, ◌+◌, List, [], ◌∷◌, ◌++◌, length, Bool, true, false, cond, not, ◌||◌, Option, Some, refl, sym, ap, subst, ◌∙◌, arith, inl, inr, ◌⊎◌}
+use Rattle.std.proofs.Common.{◌≡◌, ℕ, zero, suc, ◌+◌, List, [], ◌∷◌, ◌++◌, length, Bool, true, false, cond, not, ◌||◌, Some, refl, sym, ap, subst, ◌∙◌, arith, inl, inr}
 use Rattle.std.specs.Prelude.{slice_get}
 use Rattle.std.specs.List.{list_any}
+use Rattle.wy_core.proofs.wy_lemmas_proofs.Choices.{or_false}
+use Rattle.wy_core.proofs.wy_lemmas_proofs.Lists.{get_front, last_or}
+use Rattle.wy_core.proofs.wy_lemmas_proofs.Options.{some_one as some_is}
 use Rattle.wy_types.specs.declared.table.Node.{Node}
 use Rattle.wy_types.specs.Nodes.{same_node, place_of, AreOnce, IsAfterParts, AreGrounded}
 use Rattle.wy_types.specs.Numbering.{put}
@@ -9,25 +12,6 @@ use Rattle.wy_types.specs.Standing.{Grows}
 use Rattle.wy_types.specs.NodeLaws.{node_is, node_self}
 
 -- ---- places
-
-pub get_front : {X : Type 0} (xs ys : List X) (n : ℕ) (x : X) → slice_get xs n ≡ Some x → slice_get (xs ++ ys) n ≡ Some x
-get_front [] ys n x e = absurd cc
-get_front (y ∷ xs) ys zero x e = e
-get_front (y ∷ xs) ys (suc n) x e = get_front xs ys n x e
-
-pub some_is : {X : Type 0} (o : Option X) (x y : X) → o ≡ Some x → o ≡ Some y → x ≡ y
-some_is o x y e f = cc
-
--- the last, or one of those before
-last_or : {X : Type 0} (xs : List X) (x y : X) (n : ℕ) → slice_get (xs ++ x ∷ []) n ≡ Some y → (slice_get xs n ≡ Some y) ⊎ ((n ≡ length xs) × (x ≡ y))
-last_or [] x y zero e = inr (refl, some_is (Some x) x y refl e)
-last_or [] x y (suc n) e = absurd cc
-last_or (z ∷ xs) x y zero e = inl e
-last_or (z ∷ xs) x y (suc n) e = elim (last_or xs x y n e) [ inl a ↦ inl a | inr b ↦ inr (ap suc b.0, b.1) ]
-
-or_false : (a b : Bool) → (a || b) ≡ false → (a ≡ false) × (b ≡ false)
-or_false true b e = absurd cc
-or_false false b e = (refl, e)
 
 -- ---- a node that is looked for
 

@@ -1,7 +1,8 @@
 -- The table of a question says of a datum what its types do, and is ranked.
 use Rattle.std.proofs.Common.{◌≡◌, ℕ, zero, suc, List, [], ◌∷◌, length, Bool, Option, Some, None, refl, sym, ap, subst, ◌∙◌}
 use Rattle.std.specs.Prelude.{slice_get, take}
-use Rattle.wy_value.specs.Datum.{Datum}
+use Rattle.wy_core.proofs.wy_lemmas_proofs.Options.{some_one as some_is}
+use Rattle.wy_core.specs.wy_value.Datum.{Datum}
 use Rattle.wy_core.specs.Types.{Ty}
 use Rattle.wy_types.specs.declared.table.Node.{Node}
 use Rattle.wy_types.specs.declared.table.Definition.{Definition}
@@ -18,7 +19,7 @@ use Rattle.wy_types.specs.Numbering.{put_ty, put_declared}
 use Rattle.wy_types.specs.Standing.{Stands, NameStands, NamesStand, Grows}
 use Rattle.wy_types.specs.Recursion.{RecurThroughParts}
 use Rattle.wy_types.specs.Questions.{numbered, IsOver}
-use Rattle.wy_types.proofs.PutLemmas.{same_grows, grows_more, some_is}
+use Rattle.wy_types.proofs.PutLemmas.{same_grows, grows_more}
 use Rattle.wy_types.proofs.StandLemmas.{stands_still, ty_put}
 use Rattle.wy_types.proofs.RankLemmas.{some_rank}
 use Rattle.wy_types.proofs.AgreeLemmas.{member_agrees}

@@ -1,10 +1,11 @@
 -- What a table says of a datum is what the types of its numbers do.
-use Rattle.std.proofs.Common.{◌≡◌, ℕ, zero, suc, ◌<◌, ◌≤◌, List, [], ◌∷◌, length, Bool, not, refl, sym, ap, ◌∙◌, arith, inl, inr, ◌⊎◌}
+use Rattle.std.proofs.Common.{◌≡◌, ℕ, zero, suc, ◌<◌, ◌≤◌, List, [], ◌∷◌, length, Bool, not, refl, sym, ap, ◌∙◌, arith, inl, inr}
 use Rattle.std.specs.Option.{unwrap_or}
 use Rattle.std.proofs.lemmas.Option.{slice_get_past}
-use Rattle.wy_value.specs.Datum.{Datum, Data, Fields, no_items, item, no_fields, field}
-use Rattle.wy_value.specs.Datum as datum
-use Rattle.wy_value.specs.Values.{names_of}
+use Rattle.wy_core.proofs.wy_lemmas_proofs.Choices.{at_or_past as low_or_past}
+use Rattle.wy_core.specs.wy_value.Datum.{Datum, Data, Fields, no_items, item, no_fields, field}
+use Rattle.wy_core.specs.wy_value.Datum as datum
+use Rattle.wy_core.specs.wy_value.Values.{names_of}
 use Rattle.wy_core.specs.Types.{Ty, RecordTy, ArrayTy, NotTy, NormalTy, ArrayAtom, RecordAtom}
 use Rattle.wy_types.specs.declared.conjuncts.Signed as signed
 use Rattle.wy_types.specs.declared.conjuncts.Part as parts
@@ -15,7 +16,7 @@ use Rattle.wy_types.specs.declared.table.Node.{Node}
 use Rattle.wy_types.specs.declared.table.Node.TheVariants as node
 use Rattle.wy_types.specs.declared.table.Table.{Table}
 use Rattle.wy_types.specs.Shape.{Shape, NullShape, BoolShape, IntShape, ArrayShape, RecordShape, is_null, is_bool, is_int, is_record, part_in, each_in, fields_in, array_atom_in, record_atom_in, atom_in, none_in, any_in}
-use Rattle.wy_types.specs.Membership.{node_of, items_in, array_in, values_in, record_in, node_in, is_in, shape_of, item_readers, field_readers, member}
+use Rattle.wy_types.specs.Membership.{node_of, items_in, array_in, values_in, record_in, node_in, is_in, shape_of, item_readers, field_readers}
 use Rattle.wy_types.specs.Names.{Declared, terms_in, each_terms_in, parts_in, is_array_of, is_record_of, is_in_atom, is_in_none, is_in_normal, each_in_ty, is_array, fields_in_tys, is_record_with, ty_in, named_in, is_in_ty}
 use Rattle.wy_types.specs.Names as names_of_types
 use Rattle.wy_types.specs.Ranked.{IsRanked}
@@ -79,11 +80,6 @@ ty_at-deeper table grounded (suc k) t lt =
 
 past_void : (table : Table) (t : ℕ) → length table.nodes ≤ t → node_of table t ≡ node.Void
 past_void table t le = ap (λ o. unwrap_or o node.Void) (slice_get_past table.nodes t le)
-
-low_or_past : (t n : ℕ) → (t < n) ⊎ (n ≤ t)
-low_or_past t zero = inr (omega arith)
-low_or_past zero (suc n) = inl (omega arith)
-low_or_past (suc t) (suc n) = elim (low_or_past t n) [ inl a ↦ inl (omega (arith, a)) | inr b ↦ inr (omega (arith, b)) ]
 
 -- the type of a number is that of its node
 pub ty_at-node : (table : Table) → AreGrounded table.nodes → (t : ℕ) → ty_at table (suc (length table.nodes)) t ≡ node_ty (ty_at table (suc (length table.nodes))) (node_of table t)
@@ -283,10 +279,6 @@ module _ (table : Table) (names : List Declared) (order : ℕ → ℕ) (ordered 
     fields_agree_at : (fields : Fields) → AllAgreeAt at (field_readers table depth fields) (names_of_types.field_readers names fields)
     fields_agree_at no_fields = tt
     fields_agree_at (field name d rest) = (number_agrees d (shapes_agree_at d), fields_agree_at rest)
-
-  -- a number says of a datum what its type does
-  pub number_says : (d : Datum) (up : Bool) (n : ℕ) → member table depth d up n ≡ is_in_ty names (names_of_types.shape_of names d) up (at n)
-  number_says d up n = number_agrees d (shapes_agree_at d) up n
 
   -- conjuncts say of a datum what the normal type does that they make
   pub conjuncts_say : (d : Datum) (cs : List (conjuncts.Conjunct ℕ)) → any_in (shape_of table depth d) cs ≡ is_in_normal (names_of_types.shape_of names d) (conjuncts_at at cs)

@@ -1,7 +1,8 @@
 -- The union of the conjuncts of a term is the term.
 use Rattle.std.proofs.Common.{◌≡◌, ℕ, zero, suc, List, [], ◌∷◌, Bool, true, false, cond, not, ◌&&◌, ◌||◌, Option, Some, None, refl, sym, ap, ◌∙◌}
 use Rattle.std.specs.Str.{bytes_eq}
-use Rattle.std.proofs.lemmas.Bool.{eqb-true}
+use Rattle.wy_core.proofs.wy_lemmas_proofs.Choices.{and_end as and_true, and_assoc}
+use Rattle.wy_types.specs.NodeLaws.{same_term_is}
 use Rattle.wy_types.specs.declared.conjuncts.Signed.{Signed}
 use Rattle.wy_types.specs.declared.conjuncts.Atom.TheVariants as atom
 use Rattle.wy_types.specs.declared.conjuncts.Conjunct.{Conjunct}
@@ -15,13 +16,10 @@ use Rattle.wy_types.specs.Membership.{node_of, definition_of, items_in, array_in
 use Rattle.wy_types.specs.Ranked.{Obeys, IsLawful, HasLaws}
 use Rattle.wy_types.specs.Merge.{part, merge, nothing_or_all}
 use Rattle.wy_types.specs.Conjuncts.{same_term, signed, node_sides, with_sides, parts_of, named_dnf, node_dnf, dnf, dnf_more, dnf_part}
-use Rattle.wy_types.proofs.TruthLemmas.{and_assoc, and_true, not_or, signed_as-not}
+use Rattle.wy_types.proofs.TruthLemmas.{not_or, signed_as-not}
 use Rattle.wy_types.proofs.OnceLemmas.{part_in-with_signed}
 use Rattle.wy_types.proofs.MeetLemmas.{any_in-merge}
 use Rattle.wy_types.proofs.OutLemmas.{any_in-kinds, any_in-atom_or_out, any_in-nothing_or_all, any_in-all_or_nothing, any_in-union, any_in-inter, any_in-normal_or_out}
-
-pub same_term_is : (x y : ℕ) → same_term x y ≡ true → x ≡ y
-same_term_is x y e = eqb-true x y e
 
 -- ---- sides
 

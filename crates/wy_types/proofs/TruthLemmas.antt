@@ -2,30 +2,6 @@
 use Rattle.std.proofs.Common.{◌≡◌, Bool, true, false, not, ◌&&◌, ◌||◌, refl}
 use Rattle.wy_types.specs.Shape.{signed_as}
 
-pub and_assoc : (a b c : Bool) → ((a && b) && c) ≡ (a && (b && c))
-and_assoc true b c = refl
-and_assoc false b c = refl
-
-pub or_assoc : (a b c : Bool) → ((a || b) || c) ≡ (a || (b || c))
-or_assoc true b c = refl
-or_assoc false b c = refl
-
-pub and_true : (a : Bool) → (a && true) ≡ a
-and_true true = refl
-and_true false = refl
-
-pub and_false : (a : Bool) → (a && false) ≡ false
-and_false true = refl
-and_false false = refl
-
-pub or_false : (a : Bool) → (a || false) ≡ a
-or_false true = refl
-or_false false = refl
-
-pub or_true : (a : Bool) → (a || true) ≡ true
-or_true true = refl
-or_true false = refl
-
 pub and_or : (a b c : Bool) → (a && (b || c)) ≡ ((a && b) || (a && c))
 and_or true b c = refl
 and_or false b c = refl
@@ -57,17 +33,3 @@ signed_as-not true true = refl
 signed_as-not true false = refl
 signed_as-not false true = refl
 signed_as-not false false = refl
-
-pub signed_as-true : (a b : Bool) → signed_as a b ≡ true → a ≡ b
-signed_as-true true true e = refl
-signed_as-true false false e = refl
-signed_as-true true false e = absurd cc
-signed_as-true false true e = absurd cc
-
-pub both : (a b : Bool) → (a && b) ≡ true → (a ≡ true) × (b ≡ true)
-both true true e = (refl, refl)
-both true false e = absurd cc
-both false b e = absurd cc
-
-pub two_true : (a b : Bool) → a ≡ true → b ≡ true → (a && b) ≡ true
-two_true a b e f = rw (e, f) refl

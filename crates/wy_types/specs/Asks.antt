@@ -1,6 +1,6 @@
 -- The parts whose values decide whether a conjunct has a value: some of these, of which all, of each of which some part has one.
 use Rattle.std.specs.Prelude.{◌≡◌, ℕ, ◌+◌, ◌*◌, leb, length, List, [], ◌∷◌, ◌++◌, Bool, true, false, cond, not}
-use Rattle.wy_value.specs.Datum.{Datum}
+use Rattle.wy_core.specs.wy_value.Datum.{Datum}
 use Rattle.wy_types.specs.declared.conjuncts.Signed.{Signed}
 use Rattle.wy_types.specs.declared.conjuncts.Part.{Part}
 use Rattle.wy_types.specs.declared.conjuncts.Atom.{Atom}

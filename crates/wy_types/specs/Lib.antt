@@ -3,7 +3,6 @@ pub mod Shape
 pub mod Membership
 pub mod Ranked
 pub mod Names
-pub mod Aliases
 -- the conjuncts of a term
 pub mod Claims
 pub mod Same
@@ -22,3 +21,6 @@ pub mod Recursion
 pub mod Agreement
 pub mod Reading
 pub mod Questions
+-- passed on to the crates above
+pub use Rattle.wy_core.specs as wy_core
+pub use Rattle.wy_core.specs.wy_value as wy_value

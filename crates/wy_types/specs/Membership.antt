@@ -2,9 +2,9 @@
 use Rattle.std.specs.Prelude.{ℕ, zero, suc, List, [], ◌∷◌, Bool, true, false, not, ◌&&◌, ◌||◌, Option, Some, None, slice_get}
 use Rattle.std.specs.Option.{unwrap_or}
 use Rattle.std.specs.Str.{bytes_eq}
-use Rattle.wy_value.specs.Datum.{Datum, Data, Fields, no_items, item, no_fields, field}
-use Rattle.wy_value.specs.Datum as datum
-use Rattle.wy_value.specs.Values.{names_of}
+use Rattle.wy_core.specs.wy_value.Datum.{Datum, Data, Fields, no_items, item, no_fields, field}
+use Rattle.wy_core.specs.wy_value.Datum as datum
+use Rattle.wy_core.specs.wy_value.Values.{names_of}
 use Rattle.wy_types.specs.declared.table.Node.{Node}
 use Rattle.wy_types.specs.declared.table.Node.TheVariants as node
 use Rattle.wy_types.specs.declared.table.Definition.{Definition}

@@ -1,9 +1,9 @@
 -- The declared types of a program, and what a type says of a datum. A constrained name stands upward for its definition and downward for nothing; under a negation the readings swap.
 use Rattle.std.specs.Prelude.{ℕ, zero, suc, length, List, [], ◌∷◌, Bool, true, false, not, ◌&&◌, ◌||◌, Option, Some, None, slice_get, is_some, map}
 use Rattle.std.specs.Str.{bytes_eq}
-use Rattle.wy_value.specs.Datum.{Datum, Data, Fields, no_items, item, no_fields, field}
-use Rattle.wy_value.specs.Datum as datum
-use Rattle.wy_value.specs.Values.{names_of}
+use Rattle.wy_core.specs.wy_value.Datum.{Datum, Data, Fields, no_items, item, no_fields, field}
+use Rattle.wy_core.specs.wy_value.Datum as datum
+use Rattle.wy_core.specs.wy_value.Values.{names_of}
 use Rattle.wy_core.specs.Types.{Ty, FieldTys, Conjuncts, Atoms, Atom, FieldParts, Part, NullTy, BoolTy, IntTy, AnyTy, VoidTy, RecordTy, ArrayTy, UnionTy, InterTy, NotTy, NamedTy, NormalTy, NoFieldTys, MoreFieldTys, NoConjuncts, MoreConjuncts, NoAtoms, MoreAtoms, NullAtom, BoolAtom, IntAtom, ArrayAtom, RecordAtom, AnyRecordAtom, NoFieldParts, MoreFieldParts, NoTerms, MoreTerms}
 use Rattle.wy_core.specs.CoreTree.{Decl, AliasDecl, RoutineDecl}
 use Rattle.wy_core.specs.CoreSeen.{seen_ty}

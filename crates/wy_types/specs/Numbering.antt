@@ -12,10 +12,6 @@ use Rattle.wy_types.specs.declared.table.Definition.{Definition}
 use Rattle.wy_types.specs.Names.{Declared}
 use Rattle.wy_types.specs.Nodes.{with_node, place_of}
 
--- nodes, and what stands for something in them
-abbrev pub In : Type 0 → Type 0
-In X = List Node × X
-
 -- the node and its number
 abbrev pub put : List Node → Node → List Node × ℕ
 put ns n = (with_node ns n, place_of ns n)

@@ -7,10 +7,6 @@ use Rattle.wy_types.specs.declared.conjuncts.Atom.{Atom}
 use Rattle.wy_types.specs.declared.conjuncts.Atom.TheVariants as atom
 use Rattle.wy_types.specs.declared.conjuncts.Conjunct.{Conjunct}
 
--- tells whether a value is in a term, read upward or downward
-abbrev pub Reader : Type 0 → Type 0
-Reader T = Bool → T → Bool
-
 -- a value, with what its parts tell
 pub data Shape (T : Type 0) : Type 0 where
   NullShape : Shape T

@@ -1,7 +1,7 @@
 //! Laws of the definitions.
 ghost use Rattle.std.specs.Prelude.{◌≡◌, ◌↔◌, ℕ, List};
 ghost use Rattle.wy_core.specs.Types.{Ty};
-ghost use Rattle.wy_value.specs.Datum.{Datum};
+ghost use Rattle.wy_core.specs.wy_value.Datum.{Datum};
 ghost use Rattle.wy_types.specs.declared.conjuncts.Signed.{Signed};
 ghost use Rattle.wy_types.specs.declared.table.Table.{Table};
 ghost use Rattle.wy_types.specs.Conjuncts.{dnf_part};

@@ -10,6 +10,7 @@
 #![tactic(auto)]
 
 mod conjuncts;
+pub mod formed;
 mod guarded;
 mod laws;
 mod names;

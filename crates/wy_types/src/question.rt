@@ -11,7 +11,7 @@ ghost use Rattle.wy_types.specs.Ranked.{IsRanked};
 ghost use Rattle.wy_types.specs.Reading.{ty_at, conjuncts_at};
 ghost use Rattle.wy_types.specs.Recursion.{RecurThroughParts};
 ghost use Rattle.wy_types.specs.Shape.{any_in};
-ghost use Rattle.wy_value.specs.Datum.{Datum};
+ghost use Rattle.wy_core.specs.wy_value.Datum.{Datum};
 
 use crate::names::{Declared, Names};
 use crate::numbering::Numbering;

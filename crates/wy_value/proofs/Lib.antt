@@ -15,3 +15,6 @@ pub mod TextBytes
 pub mod RoundTrip
 pub mod LawLemmas
 pub mod ReadValues
+-- passed on to the crates above
+pub use Rattle.wy_data.proofs as wy_data_proofs
+pub use Rattle.wy_data.proofs.wy_lemmas_proofs as wy_lemmas_proofs

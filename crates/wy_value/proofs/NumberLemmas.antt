@@ -1,6 +1,6 @@
 -- More digits make no smaller number.
 use Rattle.std.proofs.Common.{ℕ, ◌+◌, ◌-◌, ◌*◌, ◌≤◌, List, [], ◌∷◌, arith}
-use Rattle.wy_value.specs.Numbers.{number_from}
+use Rattle.wy_reading.specs.ListGrammar.{number_from}
 
 pub number_grows : (n : ℕ) (ds : List ℕ) → n ≤ number_from n ds
 number_grows n [] = omega arith

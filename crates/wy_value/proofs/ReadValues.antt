@@ -1,5 +1,5 @@
 -- What is read are values: numbers in range, names that rise, and lists that are no longer than the text.
-use Rattle.std.proofs.Common.{◌≡◌, ℕ, zero, suc, ◌+◌, ◌-◌, ◌≤◌, ◌^◌, ℤ, Bool, true, false, not, cond, true≢false, List, [], ◌∷◌, ◌++◌, length, inl, inr, refl, sym, ap, ◌∙◌, subst, arith, rules, length-append, ◌≤ℤ◌}
+use Rattle.std.proofs.Common.{◌≡◌, ℕ, zero, suc, ◌+◌, ◌-◌, ◌≤◌, ◌^◌, ℤ, Bool, true, false, cond, true≢false, List, [], ◌∷◌, ◌++◌, length, inl, inr, refl, sym, ap, ◌∙◌, subst, arith, rules, length-append, ◌≤ℤ◌}
 use Rattle.std.proofs.lemmas.Int.{ints}
 use Rattle.std.specs.Cmp.Lexicographic.{slice_cmp, nat_list_cmp_total}
 use Rattle.std.specs.List.{AllByRecursion}
@@ -11,9 +11,11 @@ use Rattle.std.specs.Str.{chars, encode_utf8_all, all_scalars, bytes_eq}
 use Rattle.std.proofs.lemmas.Str.{chars-encodes}
 use Rattle.std.proofs.lemmas.Map.Text.{is_eq-slice_cmp}
 use Rattle.wy_data.specs.Words.{IsName, is_word, all_parts, is_keyword}
+use Rattle.wy_data.proofs.wy_lemmas_proofs.Choices.{not_true}
 use Rattle.wy_reading.specs.Rule.{One, Pure, Then, Turns, Spelled}
 use Rattle.wy_reading.specs.Rule.Turns.{stop, more}
 use Rattle.wy_reading.proofs.Words.{IsWordOf, AllPass, word-is}
+use Rattle.wy_value.proofs.RoundTrip.{rest-rises}
 use Rattle.wy_value.specs.declared.bounds.TheConstants.{INT_MIN, INT_MAX}
 use Rattle.wy_value.specs.declared.character.Character.TheVariants as c
 use Rattle.wy_value.specs.declared.fault.Kind.{Kind}
@@ -131,10 +133,6 @@ record NewOne (fs : List Entry) (n i j : List ℕ) : Type 0 where
   pub new : given fs n ≡ false
   pub left : Less_left i j
 
-not_true : (b : Bool) → not b ≡ true → b ≡ false
-not_true true h = absurd (true≢false (sym h))
-not_true false h = refl
-
 name-reads : (fs : List Entry) (i n j : List ℕ) → all_scalars i ≡ true → (NewName true fs).reads i n j → NewOne fs n i j
 name-reads fs i n j sc h =
     let w = h.0 in let k = h.1 in
@@ -174,10 +172,6 @@ below-placed m (f ∷ fs) n v b h = by (slice_cmp nat_cmp n f.0) refl (below-pla
 first-rises : (n : List ℕ) (ns : List (List ℕ)) → Rise (n ∷ ns) → Below n ns
 unfolding IsStrictlySortedBy
 first-rises n ns h = h.0
-
-rest-rises : (n : List ℕ) (ns : List (List ℕ)) → Rise (n ∷ ns) → Rise ns
-unfolding IsStrictlySortedBy
-rest-rises n ns h = h.1
 
 rise-more : (n : List ℕ) (ns : List (List ℕ)) → Below n ns → Rise ns → Rise (n ∷ ns)
 unfolding IsStrictlySortedBy

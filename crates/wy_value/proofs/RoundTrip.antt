@@ -136,7 +136,7 @@ first-rises : (n : List ℕ) (ns : List (List ℕ)) → Rise (n ∷ ns) → AllB
 unfolding IsStrictlySortedBy
 first-rises n ns h = h.0
 
-rest-rises : (n : List ℕ) (ns : List (List ℕ)) → Rise (n ∷ ns) → Rise ns
+pub rest-rises : (n : List ℕ) (ns : List (List ℕ)) → Rise (n ∷ ns) → Rise ns
 unfolding IsStrictlySortedBy
 rest-rises n ns h = h.1
 

@@ -1,12 +1,13 @@
 -- The text of a datum as characters, with more characters behind it.
-use Rattle.std.proofs.Common.{◌≡◌, ℕ, ◌+◌, ◌-◌, ◌*◌, ◌/◌, ◌%◌, ◌<◌, ◌≤◌, ◌^◌, true, false, List, [], ◌∷◌, ◌++◌, codes, refl, ap, arith}
+use Rattle.std.proofs.Common.{◌≡◌, ℕ, ◌+◌, ◌/◌, ◌%◌, ◌<◌, ◌≤◌, ◌^◌, true, false, List, [], ◌∷◌, ◌++◌, codes, refl, ap, arith}
 use Rattle.std.specs.Fmt.{decimal, signed_decimal}
 use Rattle.std.specs.Str.{chars}
 use Rattle.std.proofs.lemmas.Fmt.{decimal_by_steps_wide}
+use Rattle.wy_reading.proofs.SharedLemmas.{number_from-append}
 use Rattle.wy_reading.proofs.Words.{IsWordOf, all-append}
+use Rattle.wy_reading.specs.ListGrammar.{number_from}
 use Rattle.wy_value.specs.declared.character.Character.TheVariants.{Digit}
 use Rattle.wy_value.specs.Characters.{has}
-use Rattle.wy_value.specs.Numbers.{number_from}
 use Rattle.wy_value.specs.Datum.{Datum, Null, Truth, Whole, Array, Record, Data, no_items, item, Fields, no_fields, field}
 
 abbrev mutual
@@ -40,10 +41,6 @@ abbrev mutual
 pub record Writes (n : ℕ) (ds : List ℕ) : Type 0 where
   pub word : IsWordOf (has Digit) (has Digit) ds
   pub value : number_from 0 ds ≡ n
-
-number_from-append : (m : ℕ) (ds : List ℕ) (d : ℕ) → number_from m (ds ++ d ∷ []) ≡ number_from m ds * 10 + (d - 48)
-number_from-append m [] d = refl
-number_from-append m (e ∷ ds) d = number_from-append (m * 10 + (e - 48)) ds d
 
 a_digit : (d : ℕ) → d < 10 → has Digit (48 + d) ≡ true
 a_digit d h = grind arith

@@ -11,3 +11,5 @@ pub mod ArgumentText
 pub mod Shown
 -- the readers, which functions inside owe each other
 pub mod Reading
+-- passed on to the crates above
+pub use Rattle.wy_data.specs as wy_data

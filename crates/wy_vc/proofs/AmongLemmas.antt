@@ -6,7 +6,7 @@ use Rattle.wy_term.specs.Term.{Term, Of, Parts, no_parts, part}
 use Rattle.wy_term.specs.Nodes.{parts_at}
 use Rattle.wy_term.specs.Same.{same_term}
 use Rattle.wy_term.proofs.SameLemmas.{terms_are, terms_self}
-use Rattle.wy_conditions.specs.Limits.{has_term, is_among, terms_in, terms_in_parts, terms_in_all}
+use Rattle.wy_vc_spec.specs.Limits.{has_term, is_among, terms_in, terms_in_parts, terms_in_all}
 
 -- ---- numbers
 

@@ -8,33 +8,33 @@ use Rattle.wy_core.specs.declared.statements.Stmt as st
 use Rattle.wy_term.specs.Term.{Term}
 use Rattle.wy_term.specs.Nodes.{Plain}
 use Rattle.wy_sem.specs.Evaluation.{types_of}
-use Rattle.wy_conditions.specs.Clauses.{assume_clauses}
-use Rattle.wy_conditions.specs.Numbered.{Node, numbered_block, numbered_list}
-use Rattle.wy_conditions.specs.Owed.{Owed, assume}
-use Rattle.wy_conditions.specs.Programs as spec
-use Rattle.wy_conditions.specs.Sizes.{exprs_in_list}
-use Rattle.wy_conditions.specs.Spots.{Spot, Flow, spot, with_hyps}
-use Rattle.wy_conditions.specs.Statements.{Body, exec_all}
-use Rattle.wy_conditions.specs.Values.{Setting, named_in, clause_formula}
-use Rattle.wy_conditions.specs.Variables.{Vars}
+use Rattle.wy_vc_spec.specs.Clauses.{assume_clauses}
+use Rattle.wy_vc_spec.specs.Numbered.{Node, numbered_block, numbered_list}
+use Rattle.wy_vc_spec.specs.Owed.{Owed, assume}
+use Rattle.wy_vc_spec.specs.Programs as spec
+use Rattle.wy_vc_spec.specs.Sizes.{exprs_in_list}
+use Rattle.wy_vc_spec.specs.Spots.{Spot, Flow, spot, with_hyps}
+use Rattle.wy_vc_spec.specs.Statements.{Body, exec_all}
+use Rattle.wy_vc_spec.specs.Values.{Setting, named_in, clause_formula}
+use Rattle.wy_vc_spec.specs.Variables.{Vars}
 use Rattle.wy_vc_operations.specs.Growing.{Kept}
-use Rattle.wy_vc_actions.specs.declared.here.Here.{Here}
-use Rattle.wy_vc_actions.specs.Types.{types_in}
-use Rattle.wy_vc_actions.proofs.NumberedLemmas.{numbered_types}
-use Rattle.wy_vc_expressions.specs.Slots.{AreSlots, slots_of}
-use Rattle.wy_vc_expressions.specs.State.{Steps, hyps_of, owed_of}
-use Rattle.wy_vc_expressions.specs.declared.walk.Walk.{Walk}
-use Rattle.wy_vc_expressions.proofs.NumberedLemmas.{kept_then}
-use Rattle.wy_vc_expressions.proofs.SlotLemmas.{slots_kept}
-use Rattle.wy_vc_expressions.proofs.StateLemmas.{steps_as, steps_noded}
-use Rattle.wy_vc_actions.specs.Paths.{spot_of}
-use Rattle.wy_vc_actions.specs.Frames.{IsFrame, body_at, routine_of}
-use Rattle.wy_vc_actions.specs.Frames as frames
-use Rattle.wy_vc_actions.specs.Going.{Went}
-use Rattle.wy_vc_actions.specs.Loops.{Renews}
-use Rattle.wy_vc_actions.specs.declared.frame.Frame.{Frame}
-use Rattle.wy_vc_actions.proofs.FrameLemmas.{body_kept}
-use Rattle.wy_vc_names.specs.Described.{setting}
+use Rattle.wy_vc_body.specs.declared.here.Here.{Here}
+use Rattle.wy_vc_body.specs.Types.{types_in}
+use Rattle.wy_vc_body.proofs.NumberedLemmas.{numbered_types}
+use Rattle.wy_vc_exprs.specs.Slots.{AreSlots, slots_of}
+use Rattle.wy_vc_exprs.specs.State.{Steps, hyps_of, owed_of}
+use Rattle.wy_vc_exprs.specs.declared.walk.Walk.{Walk}
+use Rattle.wy_vc_exprs.proofs.NumberedLemmas.{kept_then}
+use Rattle.wy_vc_exprs.proofs.SlotLemmas.{slots_kept}
+use Rattle.wy_vc_exprs.proofs.StateLemmas.{steps_as, steps_noded}
+use Rattle.wy_vc_body.specs.Paths.{spot_of}
+use Rattle.wy_vc_body.specs.Frames.{IsFrame, body_at, routine_of}
+use Rattle.wy_vc_body.specs.Frames as frames
+use Rattle.wy_vc_body.specs.Going.{Went}
+use Rattle.wy_vc_body.specs.Loops.{Renews}
+use Rattle.wy_vc_body.specs.declared.frame.Frame.{Frame}
+use Rattle.wy_vc_body.proofs.FrameLemmas.{body_kept}
+use Rattle.wy_vc_tables.specs.program_names.Described.{setting}
 use Rattle.wy_vc.specs.Entering.{Owes}
 use Rattle.wy_vc.proofs.OwingLemmas.{owes_as, owes_from, owes_then}
 

@@ -5,33 +5,34 @@ use Rattle.std.proofs.lemmas.List.{append-nil, append_assoc, length-take-le}
 use Rattle.wy_core.specs.CoreTree as tree
 use Rattle.wy_term.specs.Term.{Term}
 use Rattle.wy_term.specs.Nodes.{Plain, tree_at}
-use Rattle.wy_conditions.specs.Calls.{Walked}
-use Rattle.wy_conditions.specs.Clauses.{Passed, passed}
-use Rattle.wy_conditions.specs.Joins as joins
-use Rattle.wy_conditions.specs.Making.{denied, formula}
-use Rattle.wy_conditions.specs.Numbered.{Node}
-use Rattle.wy_conditions.specs.Owed.{Owed, assume}
-use Rattle.wy_conditions.specs.Spots.{Spot, spot, Flow, as_list}
-use Rattle.wy_conditions.specs.Statements as spec
-use Rattle.wy_conditions.specs.Variables.{Vars}
+use Rattle.wy_vc_spec.specs.Calls.{Walked}
+use Rattle.wy_vc_spec.specs.Clauses.{Passed, passed}
+use Rattle.wy_vc_spec.specs.Joins as joins
+use Rattle.wy_vc_spec.specs.Making.{denied, formula}
+use Rattle.wy_vc_spec.specs.Numbered.{Node}
+use Rattle.wy_vc_spec.specs.Owed.{Owed, assume}
+use Rattle.wy_vc_spec.specs.Spots.{Spot, spot, Flow, as_list}
+use Rattle.wy_vc_spec.specs.Statements as spec
+use Rattle.wy_vc_spec.specs.Variables.{Vars}
+use Rattle.wy_vc_operations.proofs.GrowingLemmas.{here_kept}
 use Rattle.wy_vc_operations.specs.Growing.{Kept, AreBelow, Makes}
-use Rattle.wy_vc_actions.specs.declared.here.Here.{Here}
+use Rattle.wy_vc_body.specs.declared.here.Here.{Here}
 use Rattle.wy_vc_terms.specs.declared.maker.Maker.{Maker}
-use Rattle.wy_vc_expressions.specs.Numbered.{trees_of}
-use Rattle.wy_vc_expressions.specs.Slots.{AreSlots, slots_of}
-use Rattle.wy_vc_expressions.specs.State.{IsGoal, IsSound, Steps, Walks, hyps_of, owed_of, passed_by, seen_goal}
-use Rattle.wy_vc_expressions.specs.declared.goal.Goal.{Goal}
-use Rattle.wy_vc_expressions.specs.declared.walk.Walk.{Walk}
-use Rattle.wy_vc_expressions.proofs.NumberedLemmas.{below_on, here_kept, kept_then, trees_kept}
-use Rattle.wy_vc_expressions.proofs.SlotLemmas.{slots_kept}
-use Rattle.wy_vc_expressions.proofs.StateLemmas.{steps_as, steps_cut, steps_on}
-use Rattle.wy_vc_actions.proofs.PathLemmas.{paths_on}
-use Rattle.wy_vc_actions.specs.declared.paths.Path.{Path}
-use Rattle.wy_vc_actions.specs.Paths.{ArePaths, IsPath, Meets, seen_end, seen_ends, spot_of}
-use Rattle.wy_vc_actions.specs.declared.frame.Frame.{Frame}
-use Rattle.wy_vc_actions.specs.Frames.{IsFrame, body_at}
-use Rattle.wy_vc_actions.proofs.AssignLemmas.{steps_then_made}
-use Rattle.wy_vc_actions.proofs.FrameLemmas.{body_kept, spot_behind}
+use Rattle.wy_vc_exprs.specs.Numbered.{trees_of}
+use Rattle.wy_vc_exprs.specs.Slots.{AreSlots, slots_of}
+use Rattle.wy_vc_exprs.specs.State.{IsGoal, IsSound, Steps, Walks, hyps_of, owed_of, passed_by, seen_goal}
+use Rattle.wy_vc_exprs.specs.declared.goal.Goal.{Goal}
+use Rattle.wy_vc_exprs.specs.declared.walk.Walk.{Walk}
+use Rattle.wy_vc_exprs.proofs.NumberedLemmas.{below_on, kept_then, trees_kept}
+use Rattle.wy_vc_exprs.proofs.SlotLemmas.{slots_kept}
+use Rattle.wy_vc_exprs.proofs.StateLemmas.{steps_as, steps_cut, steps_on}
+use Rattle.wy_vc_body.proofs.PathLemmas.{paths_on}
+use Rattle.wy_vc_body.specs.declared.paths.Path.{Path}
+use Rattle.wy_vc_body.specs.Paths.{ArePaths, IsPath, Meets, seen_end, seen_ends, spot_of}
+use Rattle.wy_vc_body.specs.declared.frame.Frame.{Frame}
+use Rattle.wy_vc_body.specs.Frames.{IsFrame, body_at}
+use Rattle.wy_vc_body.proofs.AssignLemmas.{steps_then_made}
+use Rattle.wy_vc_body.proofs.FrameLemmas.{body_kept, spot_behind}
 use Rattle.wy_vc.specs.declared.branches.Fork.{Fork}
 use Rattle.wy_vc.specs.declared.branches.Tested.{Tested}
 use Rattle.wy_vc.specs.Branches.{Forks, IsTested, Turns}

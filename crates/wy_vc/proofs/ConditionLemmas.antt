@@ -13,24 +13,24 @@ use Rattle.wy_term.specs.Term.{Term}
 use Rattle.wy_term.specs.Nodes.{Plain}
 use Rattle.wy_term.specs.Unfolding.{AreListedOnce, IsUnlisted}
 use Rattle.wy_term.specs.declared.cond.Cond.{Cond}
-use Rattle.wy_conditions.specs.Limits as limits
-use Rattle.wy_conditions.specs.Limits.{is_among, rising_among, unfolded}
-use Rattle.wy_conditions.specs.Numbered.{Node, numbered_core}
-use Rattle.wy_conditions.specs.Owed.{Owed}
-use Rattle.wy_conditions.specs.Programs as programs
-use Rattle.wy_conditions.specs.Values.{Setting}
-use Rattle.wy_conditions.specs.Walks as walks
-use Rattle.wy_typing.specs.TypedPrograms.{Triple, core_of, flow_of}
-use Rattle.wy_vc_actions.specs.Frames as frames
+use Rattle.wy_vc_spec.specs.Limits as limits
+use Rattle.wy_vc_spec.specs.Limits.{is_among, rising_among, unfolded}
+use Rattle.wy_vc_spec.specs.Numbered.{Node, numbered_core}
+use Rattle.wy_vc_spec.specs.Owed.{Owed}
+use Rattle.wy_vc_spec.specs.Programs as programs
+use Rattle.wy_vc_spec.specs.Values.{Setting}
+use Rattle.wy_vc_spec.specs.Walks as walks
+use Rattle.wy_flow_spec.specs.typing.TypedPrograms.{Triple, core_of, flow_of}
+use Rattle.wy_vc_body.specs.Frames as frames
 use Rattle.wy_vc.specs.Counted.{passing_told}
 use Rattle.wy_vc.specs.Told.{Told, seen_cond, told}
-use Rattle.wy_vc_names.specs.Described.{setting}
-use Rattle.wy_vc_names.specs.declared.program.Program.{Program}
+use Rattle.wy_vc_tables.specs.program_names.Described.{setting}
+use Rattle.wy_vc_tables.specs.declared.program_names.program.Program.{Program}
 use Rattle.wy_vc_operations.specs.Growing.{Kept}
-use Rattle.wy_vc_expressions.specs.State.{IsGoal, IsSound, owed_of, seen_goal}
-use Rattle.wy_vc_expressions.specs.declared.goal.Goal.{Goal}
-use Rattle.wy_vc_expressions.specs.declared.walk.Walk.{Walk}
-use Rattle.wy_vc_expressions.proofs.StateLemmas.{goal_kept, goals_kept}
+use Rattle.wy_vc_exprs.specs.State.{IsGoal, IsSound, owed_of, seen_goal}
+use Rattle.wy_vc_exprs.specs.declared.goal.Goal.{Goal}
+use Rattle.wy_vc_exprs.specs.declared.walk.Walk.{Walk}
+use Rattle.wy_vc_exprs.proofs.StateLemmas.{goal_kept, goals_kept}
 use Rattle.wy_vc.specs.Entering.{OwesFirst}
 use Rattle.wy_vc_operations.specs.Growing.{AreBelow}
 use Rattle.wy_vc_terms.specs.declared.maker.Maker.{Maker}
@@ -93,12 +93,12 @@ first_passing s before k (o ∷ os) rest le w =
     behind (inr past) = inr (omega (arith, past))
 
 -- where the limits are kept there are few enough
-few_if : (n k m : ℕ) (many large : Bool) (left : limits.Passing) → (many ≡ false → n ≤ m) → (n ≤ m → left ≡ limits.Within → n + k ≤ m) → (if many then limits.TooMany else (if large then limits.TooLarge n else left)) ≡ limits.Within → n + k ≤ m
+pub few_if : (n k m : ℕ) (many large : Bool) (left : limits.Passing) → (many ≡ false → n ≤ m) → (n ≤ m → left ≡ limits.Within → n + k ≤ m) → (if many then limits.TooMany else (if large then limits.TooLarge n else left)) ≡ limits.Within → n + k ≤ m
 few_if n k m true large left less rest is = absurd (let e : limits.TooMany ≡ limits.Within = is in cc)
 few_if n k m false true left less rest is = absurd (let e : limits.TooLarge n ≡ limits.Within = is in cc)
 few_if n k m false false left less rest is = rest (less refl) is
 
-few_within : (s : Setting Node) (before : List Term) (k : ℕ) (os : List Owed) → k ≤ limits.most_conditions → limits.passing_from s before (suc k) os ≡ limits.Within → k + length os ≤ limits.most_conditions
+pub few_within : (s : Setting Node) (before : List Term) (k : ℕ) (os : List Owed) → k ≤ limits.most_conditions → limits.passing_from s before (suc k) os ≡ limits.Within → k + length os ≤ limits.most_conditions
 few_within s before k [] le is = omega (arith, le)
 few_within s before k (o ∷ os) le is =
     let n : suc k + length os ≤ limits.most_conditions =

@@ -4,7 +4,7 @@ use Rattle.std.specs.Prelude.{if◌then◌else◌}
 use Rattle.std.proofs.Math.Dec.{eqb}
 use Rattle.std.proofs.lemmas.Bool.{or_parts, eqb-true, eqb-false, cases_Bool, cond-true, cond-false, both_ways, false_from_ne_true}
 use Rattle.wy_term.specs.Term.{Term}
-use Rattle.wy_conditions.specs.Limits.{different, has_term, is_among}
+use Rattle.wy_vc_spec.specs.Limits.{different, has_term, is_among}
 use Rattle.wy_vc.specs.Shared.{AreApart}
 use Rattle.wy_vc.proofs.AmongLemmas.{among_first, among_more, among_cases, among_either, has_first, has_more, has_cases}
 

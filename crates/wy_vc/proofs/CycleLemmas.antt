@@ -7,24 +7,23 @@ use Rattle.wy_core.specs.CoreTree as tree
 use Rattle.wy_core.specs.CoreSeen.{seen_exprs}
 use Rattle.wy_core.specs.declared.expressions.Expr as e
 use Rattle.wy_term.specs.declared.memory.NoMemory.{NoMemory}
-use Rattle.wy_conditions.specs.Calls.{Walked}
-use Rattle.wy_conditions.specs.Joins as joins
-use Rattle.wy_conditions.specs.Numbered.{Node, numbered, numbered_block, numbered_list, numbered_stmt}
-use Rattle.wy_conditions.specs.Sizes.{exprs_in, exprs_in_block, exprs_in_list, exprs_in_stmt}
-use Rattle.wy_conditions.specs.Spots.{Spot, Flow, as_list, goes}
-use Rattle.wy_conditions.specs.Statements as spec
-use Rattle.wy_vc_actions.specs.declared.here.Here.{Here}
-use Rattle.wy_vc_expressions.specs.Numbered.{trees_of}
-use Rattle.wy_vc_expressions.specs.Slots.{AreSlots, slots_of}
-use Rattle.wy_vc_expressions.specs.State.{IsSound, hyps_of, owed_of}
-use Rattle.wy_vc_expressions.specs.declared.walk.Walk.{Walk}
-use Rattle.wy_vc_expressions.proofs.ResultLemmas.{if_ok, on_ok}
-use Rattle.wy_vc_expressions.proofs.StateLemmas.{kept_all}
-use Rattle.wy_vc_actions.specs.declared.paths.Path.{Path}
-use Rattle.wy_vc_actions.specs.Paths.{ArePaths, Meets, seen_ends, spot_of}
-use Rattle.wy_vc_actions.specs.declared.frame.Frame.{Frame}
-use Rattle.wy_vc_actions.specs.Frames.{IsFrame, body_at}
-use Rattle.wy_vc_actions.specs.Going.{Went}
+use Rattle.wy_vc_spec.specs.Calls.{Walked}
+use Rattle.wy_vc_spec.specs.Joins as joins
+use Rattle.wy_vc_spec.specs.Numbered.{Node, numbered, numbered_block, numbered_list, numbered_stmt}
+use Rattle.wy_vc_spec.specs.Sizes.{exprs_in, exprs_in_block, exprs_in_list, exprs_in_stmt}
+use Rattle.wy_vc_spec.specs.Spots.{Spot, Flow, as_list, goes}
+use Rattle.wy_vc_spec.specs.Statements as spec
+use Rattle.wy_vc_body.specs.declared.here.Here.{Here}
+use Rattle.wy_vc_exprs.specs.Numbered.{trees_of}
+use Rattle.wy_vc_exprs.specs.Slots.{AreSlots, slots_of}
+use Rattle.wy_vc_exprs.specs.State.{IsSound, hyps_of, owed_of}
+use Rattle.wy_vc_exprs.specs.declared.walk.Walk.{Walk}
+use Rattle.wy_vc_exprs.proofs.ResultLemmas.{if_ok, on_ok}
+use Rattle.wy_vc_body.specs.declared.paths.Path.{Path}
+use Rattle.wy_vc_body.specs.Paths.{ArePaths, Meets, seen_ends, spot_of}
+use Rattle.wy_vc_body.specs.declared.frame.Frame.{Frame}
+use Rattle.wy_vc_body.specs.Frames.{IsFrame, body_at}
+use Rattle.wy_vc_body.specs.Going.{Went}
 use Rattle.wy_vc.specs.declared.branches.Fork.{Fork}
 use Rattle.wy_vc.specs.declared.heads.Head.{Head}
 use Rattle.wy_vc.specs.Branches.{Forks, Turns}
@@ -35,6 +34,7 @@ use Rattle.wy_vc.proofs.EndLemmas.{end_some}
 use Rattle.wy_vc.proofs.FlowLemmas.{flows_quiet}
 use Rattle.wy_vc.proofs.HeadLemmas.{while_went}
 use Rattle.wy_vc.proofs.MoveLemmas.{front_long, longer_length}
+use Rattle.wy_vc_operations.proofs.GrowingLemmas.{kept_all}
 
 -- ---- statements without `break`s
 

@@ -8,19 +8,19 @@ use Rattle.wy_core.specs.declared.declarations.Decl.{Decl}
 use Rattle.wy_core.specs.declared.declarations.Routine.{Routine}
 use Rattle.wy_core.specs.declared.expressions.Expr as e
 use Rattle.wy_core.specs.declared.statements.Stmt as st
-use Rattle.wy_conditions.specs.Numbered.{Node, exprs_in_decl, numbered_decl, numbered_decls, numbered_routine}
-use Rattle.wy_conditions.specs.Owed.{Owed}
-use Rattle.wy_conditions.specs.Programs.{decl_conditions, decls_conditions}
-use Rattle.wy_conditions.specs.Sizes.{exprs_in_block, exprs_in_list}
-use Rattle.wy_conditions.specs.Walks as walks
+use Rattle.wy_vc_spec.specs.Numbered.{Node, exprs_in_decl, numbered_decl, numbered_decls, numbered_routine}
+use Rattle.wy_vc_spec.specs.Owed.{Owed}
+use Rattle.wy_vc_spec.specs.Programs.{decl_conditions, decls_conditions}
+use Rattle.wy_vc_spec.specs.Sizes.{exprs_in_block, exprs_in_list}
+use Rattle.wy_vc_spec.specs.Walks as walks
+use Rattle.wy_lemmas.proofs.Lists.{next_of}
+use Rattle.wy_vc_operations.proofs.GrowingLemmas.{kept_all}
 use Rattle.wy_vc_operations.specs.Growing.{Kept}
-use Rattle.wy_vc_expressions.specs.State.{IsSound, owed_of}
-use Rattle.wy_vc_expressions.specs.declared.walk.Walk.{Walk}
-use Rattle.wy_vc_expressions.proofs.NumberedLemmas.{kept_then}
-use Rattle.wy_vc_expressions.proofs.StateLemmas.{kept_all}
-use Rattle.wy_vc_actions.proofs.PathLemmas.{next_of}
-use Rattle.wy_vc_names.specs.Described.{IsCalled}
-use Rattle.wy_vc_names.specs.declared.program.Called.{Called}
+use Rattle.wy_vc_exprs.specs.State.{IsSound, owed_of}
+use Rattle.wy_vc_exprs.specs.declared.walk.Walk.{Walk}
+use Rattle.wy_vc_exprs.proofs.NumberedLemmas.{kept_then}
+use Rattle.wy_vc_tables.specs.program_names.Described.{IsCalled}
+use Rattle.wy_vc_tables.specs.declared.program_names.program.Called.{Called}
 use Rattle.wy_vc.specs.Entering.{Owes, OwesFirst}
 
 -- the numbers of the parts of a function or method

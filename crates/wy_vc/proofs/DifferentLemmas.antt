@@ -1,12 +1,12 @@
 -- How many different terms there are, as lists grow.
-use Rattle.std.proofs.Common.{◌≡◌, ◌≤◌, ◌+◌, inl, inr, ℕ, suc, true, false, List, [], ◌∷◌, ◌++◌, refl, sym, ◌∙◌, ap, subst, arith}
+use Rattle.std.proofs.Common.{◌≡◌, ◌≤◌, inl, inr, ℕ, suc, true, false, List, [], ◌∷◌, refl, sym, ◌∙◌, ap, subst, arith}
 use Rattle.std.specs.Prelude.{if◌then◌else◌}
 use Rattle.std.proofs.lemmas.Bool.{both_ways, cases_Bool, cond-true, cond-false}
 use Rattle.wy_term.specs.Term.{Term}
 use Rattle.wy_term.specs.Same.{same_term}
 use Rattle.wy_term.proofs.SameLemmas.{terms_are, terms_self}
-use Rattle.wy_conditions.specs.Limits.{different, has_term}
-use Rattle.wy_vc.proofs.AmongLemmas.{has_cases, has_first, has_left, has_more}
+use Rattle.wy_vc_spec.specs.Limits.{different, has_term}
+use Rattle.wy_vc.proofs.AmongLemmas.{has_cases, has_first, has_more}
 
 -- each term of the one list is one of the other
 abbrev pub IsWithin : List Term → List Term → Type 0
@@ -98,18 +98,4 @@ different_within (x ∷ xs) ys within = elim (cases_Bool (has_term xs x)) as (λ
       let e = new_one x xs new in
       let f = one_fewer ys x (within x (has_first x xs)) in
       omega (arith, r, e, f)
-]
-
-no_more : (t : Term) (ts : List Term) → has_term ts t ≡ true → different (t ∷ ts) ≤ different ts
-no_more t ts h = let e = old_one t ts h in omega (arith, e)
-
-one_more : (t : Term) (ts : List Term) → different (t ∷ ts) ≤ suc (different ts)
-one_more t ts = elim (cases_Bool (has_term ts t)) as (λ _. different (t ∷ ts) ≤ suc (different ts)) [ inl h ↦ let e = old_one t ts h in omega (arith, e) | inr h ↦ let e = new_one t ts h in omega (arith, e) ]
-
--- two lists have no more than both
-pub different_both : (xs ys : List Term) → different (xs ++ ys) ≤ different xs + different ys
-different_both [] ys = omega arith
-different_both (x ∷ xs) ys = elim (cases_Bool (has_term xs x)) as (λ _. different (x ∷ (xs ++ ys)) ≤ different (x ∷ xs) + different ys) [
-  | inl again ↦ let r = different_both xs ys in let e = old_one x xs again in let f = no_more x (xs ++ ys) (has_left xs ys x again) in omega (arith, r, e, f)
-  | inr new ↦ let r = different_both xs ys in let e = new_one x xs new in let f = one_more x (xs ++ ys) in omega (arith, r, e, f)
 ]

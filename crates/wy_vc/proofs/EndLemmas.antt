@@ -4,18 +4,18 @@ use Rattle.std.proofs.lemmas.List.{append-nil, map-append, take-append-drop}
 use Rattle.std.proofs.lemmas.List.Elements.{All-append, All-head, All-tail, All-take, All-drop, All-nil, All-cons}
 use Rattle.wy_term.specs.Term.{Term}
 use Rattle.wy_term.specs.Nodes.{Plain}
-use Rattle.wy_conditions.specs.Spots.{Spot, spot, as_list}
-use Rattle.wy_conditions.specs.Variables.{Vars}
+use Rattle.wy_vc_spec.specs.Spots.{Spot, spot, as_list}
+use Rattle.wy_vc_spec.specs.Variables.{Vars}
 use Rattle.wy_vc_operations.specs.Growing.{Kept, AreBelow}
-use Rattle.wy_vc_actions.specs.declared.here.Here.{Here}
-use Rattle.wy_vc_expressions.specs.Numbered.{trees_of}
-use Rattle.wy_vc_expressions.specs.Slots.{AreSlots, slots_of}
-use Rattle.wy_vc_expressions.specs.State.{IsSound}
-use Rattle.wy_vc_expressions.specs.declared.walk.Walk.{Walk}
-use Rattle.wy_vc_expressions.proofs.NumberedLemmas.{trees_kept}
-use Rattle.wy_vc_expressions.proofs.SlotLemmas.{slots_kept}
-use Rattle.wy_vc_actions.specs.declared.paths.Path.{Path}
-use Rattle.wy_vc_actions.specs.Paths.{ArePaths, IsPath, IsEnd, seen_end, seen_ends, spot_of}
+use Rattle.wy_vc_body.specs.declared.here.Here.{Here}
+use Rattle.wy_vc_exprs.specs.Numbered.{trees_of}
+use Rattle.wy_vc_exprs.specs.Slots.{AreSlots, slots_of}
+use Rattle.wy_vc_exprs.specs.State.{IsSound}
+use Rattle.wy_vc_exprs.specs.declared.walk.Walk.{Walk}
+use Rattle.wy_vc_exprs.proofs.NumberedLemmas.{trees_kept}
+use Rattle.wy_vc_exprs.proofs.SlotLemmas.{slots_kept}
+use Rattle.wy_vc_body.specs.declared.paths.Path.{Path}
+use Rattle.wy_vc_body.specs.Paths.{ArePaths, IsPath, IsEnd, seen_end, seen_ends, spot_of}
 use Rattle.wy_vc.specs.Flows.{IsEndOf, end_of}
 
 -- ---- paths

@@ -1,35 +1,35 @@
 -- What is known where contracts and bodies begin.
-use Rattle.std.proofs.Common.{◌≡◌, ◌<◌, ◌≤◌, ◌+◌, ℕ, suc, List, [], ◌∷◌, Option, Some, None, length, drop, take, get_or, map, true, refl, sym, ◌∙◌, ap, subst, arith}
-use Rattle.std.proofs.lemmas.List.{append-nil, drop_all, take_all, take-take, length-take}
+use Rattle.std.proofs.Common.{◌≡◌, ◌<◌, ◌+◌, ℕ, suc, List, [], ◌∷◌, Option, Some, None, length, drop, take, get_or, map, true, refl, sym, ◌∙◌, ap, subst, arith}
+use Rattle.std.proofs.lemmas.List.{append-nil}
 use Rattle.wy_core.specs.CoreSeen.{seen_output, seen_param, seen_routine, seen_ty}
 use Rattle.wy_core.specs.CoreTree as tree
 use Rattle.wy_core.specs.declared.declarations.Output.{Output}
 use Rattle.wy_core.specs.declared.declarations.Param.{Param}
 use Rattle.wy_core.specs.declared.declarations.Routine.{Routine}
+use Rattle.wy_lemmas.proofs.Lists.{front, next_of}
 use Rattle.wy_term.specs.Term.{Term}
 use Rattle.wy_term.specs.Nodes.{Plain, tree_at}
-use Rattle.wy_conditions.specs.Clauses.{passed, assume_in_type}
-use Rattle.wy_conditions.specs.Making.{val_name}
-use Rattle.wy_conditions.specs.Numbered.{Node, numbered_routine}
-use Rattle.wy_conditions.specs.Programs.{name_params, assume_params, enter, enter_result, result_word}
-use Rattle.wy_conditions.specs.Spots.{Spot, spot, mark}
-use Rattle.wy_conditions.specs.Statements.{Renewed, renewed}
-use Rattle.wy_conditions.specs.Values.{Setting, variable, word_at, word_if}
-use Rattle.wy_conditions.specs.Variables.{Vars, put, put_if}
+use Rattle.wy_vc_spec.specs.Clauses.{passed, assume_in_type}
+use Rattle.wy_vc_spec.specs.Making.{val_name}
+use Rattle.wy_vc_spec.specs.Numbered.{Node, numbered_routine}
+use Rattle.wy_vc_spec.specs.Programs.{name_params, assume_params, enter, enter_result, result_word}
+use Rattle.wy_vc_spec.specs.Spots.{Spot, spot, mark}
+use Rattle.wy_vc_spec.specs.Statements.{Renewed}
+use Rattle.wy_vc_spec.specs.Values.{Setting, variable, word_at, word_if}
+use Rattle.wy_vc_spec.specs.Variables.{Vars, put, put_if}
 use Rattle.wy_vc_operations.specs.Growing.{Kept, Makes}
-use Rattle.wy_vc_actions.specs.declared.here.Here.{Here}
-use Rattle.wy_vc_expressions.specs.Numbered.{trees_of}
-use Rattle.wy_vc_expressions.specs.Slots.{AreSlots, slots_of}
-use Rattle.wy_vc_expressions.specs.State.{IsSound, Steps, hyps_of, owed_of}
-use Rattle.wy_vc_expressions.specs.declared.walk.Walk.{Walk}
-use Rattle.wy_vc_expressions.proofs.NumberedLemmas.{kept_then}
-use Rattle.wy_vc_expressions.proofs.SlotLemmas.{slots_kept, slots_on, slots_put, are_put}
-use Rattle.wy_vc_expressions.proofs.StateLemmas.{kept_all, steps_on, steps_as, steps_made, steps_none}
-use Rattle.wy_vc_expressions.proofs.GivenLemmas.{slots_put_if, are_put_if, output_typed}
-use Rattle.wy_vc_actions.proofs.PathLemmas.{next_of}
-use Rattle.wy_vc_actions.specs.Paths.{spot_of}
-use Rattle.wy_vc_actions.specs.Loops.{Renews}
-use Rattle.wy_vc_actions.proofs.LoopLemmas.{renews_on}
+use Rattle.wy_vc_body.specs.declared.here.Here.{Here}
+use Rattle.wy_vc_exprs.specs.Numbered.{trees_of}
+use Rattle.wy_vc_exprs.specs.Slots.{AreSlots, slots_of}
+use Rattle.wy_vc_exprs.specs.State.{IsSound, Steps, hyps_of, owed_of}
+use Rattle.wy_vc_exprs.specs.declared.walk.Walk.{Walk}
+use Rattle.wy_vc_exprs.proofs.NumberedLemmas.{kept_then}
+use Rattle.wy_vc_exprs.proofs.SlotLemmas.{slots_kept, slots_on, slots_put, are_put}
+use Rattle.wy_vc_exprs.proofs.StateLemmas.{steps_on, steps_as, steps_made, steps_none}
+use Rattle.wy_vc_exprs.proofs.GivenLemmas.{slots_put_if, are_put_if, output_typed}
+use Rattle.wy_vc_body.specs.Paths.{spot_of}
+use Rattle.wy_vc_body.specs.Loops.{Renews}
+use Rattle.wy_vc_body.proofs.LoopLemmas.{renews_on}
 use Rattle.wy_vc.specs.Entering.{Enters}
 
 -- ---- parameters
@@ -98,22 +98,6 @@ pub record IsEntering (a b : Walk) (h : Here) (rest all : Renewed) : Type 0 wher
   pub node : b.maker.node ≡ a.maker.node
   pub is : rest ≡ all
 
-pub entering_begin : (a : Walk) (h : Here) (all : Renewed) → IsSound a → AreSlots a.maker.terms h.vars.items → IsEntering a a h all all
-entering_begin a h all sound slots = record {
-  sound = sound;
-  kept = kept_all a.maker.terms;
-  longer = take_all (length a.hyps.items) a.hyps.items (omega arith);
-  owed = refl;
-  slots = slots;
-  node = refl;
-  is = refl;
-}
-
-front : (x y z : List ℕ) → take (length x) y ≡ x → take (length y) z ≡ y → take (length x) z ≡ x
-front x y z e g =
-    let short : length x ≤ length y = omega (arith, sym (ap length e) ∙ length-take (length x) y) in
-    sym (take-take (length x) (length y) z short) ∙ ap (λ (l : List ℕ). take (length x) l) g ∙ e
-
 entering_step : (F : Spot → ℕ → Renewed) (a b c : Walk) (h h' : Here) (one all : Renewed) → IsEntering a b h (F one.spot one.count) all → Renews b c h' one → c.maker.node ≡ b.maker.node → IsEntering a c h' (F (spot_of c h') c.maker.count) all
 entering_step F a b c h h' one all inv r node = record {
   sound = r.sound;
@@ -123,16 +107,6 @@ entering_step F a b c h h' one all inv r node = record {
   slots = r.spot.slots;
   node = node ∙ inv.node;
   is = ap (λ (p : Spot). F p c.maker.count) r.spot.is ∙ ap (λ (n : ℕ). F one.spot n) r.count ∙ inv.is;
-}
-
-pub entering_end : (a b : Walk) (h : Here) (all : Renewed) → IsEntering a b h (renewed b.maker.count (spot_of b h)) all → Renews a b h all
-entering_end a b h all inv = record {
-  sound = inv.sound;
-  kept = inv.kept;
-  longer = inv.longer;
-  count = ap (λ (r : Renewed). r.count) inv.is;
-  owed = inv.owed;
-  spot = record { slots = inv.slots; is = ap (λ (r : Renewed). r.spot) inv.is };
 }
 
 -- the parameters that are left to be named, and those that are left to be of their types
@@ -150,10 +124,6 @@ naming_turn words a b c h h' ps i x all lt is inv r node =
     let inv' = subst (λ (l : List Param). IsEntering a b h (naming words l (spot_of b h) b.maker.count) all) (next_of ps i x lt is) inv in
     entering_step (λ p n. naming words (drop (i + 1) ps) p n) a b c h h' (name_params words (seen_param x ∷ []) (spot_of b h) b.maker.count) all inv' r node
 
-pub naming_end : (words : List (List ℕ)) (a b : Walk) (h : Here) (ps : List Param) (i : ℕ) (all : Renewed) → length ps ≤ i
-    → IsEntering a b h (naming words (drop i ps) (spot_of b h) b.maker.count) all → Renews a b h all
-naming_end words a b h ps i all past inv = entering_end a b h all (subst (λ (l : List Param). IsEntering a b h (naming words l (spot_of b h) b.maker.count) all) (drop_all i ps past) inv)
-
 pub typing_turn : (s : Setting Node) (a b c : Walk) (h : Here) (ps : List Param) (i : ℕ) (x : Param) (all : Renewed) → i < length ps → x ≡ get_or ps i x
     → IsEntering a b h (typing s (drop i ps) (spot_of b h) b.maker.count) all
     → Renews b c h (assume_params s (seen_param x ∷ []) (spot_of b h) b.maker.count) → c.maker.node ≡ b.maker.node
@@ -161,10 +131,6 @@ pub typing_turn : (s : Setting Node) (a b c : Walk) (h : Here) (ps : List Param)
 typing_turn s a b c h ps i x all lt is inv r node =
     let inv' = subst (λ (l : List Param). IsEntering a b h (typing s l (spot_of b h) b.maker.count) all) (next_of ps i x lt is) inv in
     entering_step (λ p n. typing s (drop (i + 1) ps) p n) a b c h h (assume_params s (seen_param x ∷ []) (spot_of b h) b.maker.count) all inv' r node
-
-pub typing_end : (s : Setting Node) (a b : Walk) (h : Here) (ps : List Param) (i : ℕ) (all : Renewed) → length ps ≤ i
-    → IsEntering a b h (typing s (drop i ps) (spot_of b h) b.maker.count) all → Renews a b h all
-typing_end s a b h ps i all past inv = entering_end a b h all (subst (λ (l : List Param). IsEntering a b h (typing s l (spot_of b h) b.maker.count) all) (drop_all i ps past) inv)
 
 -- ---- where a contract or a body begins
 

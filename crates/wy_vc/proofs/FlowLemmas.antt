@@ -5,30 +5,31 @@ use Rattle.std.proofs.lemmas.List.{append-nil, append_assoc, take_all, drop_all}
 use Rattle.wy_core.specs.CoreTree as tree
 use Rattle.wy_core.specs.CoreSeen.{seen_block, seen_stmt}
 use Rattle.wy_core.specs.declared.statements.Stmt as st
+use Rattle.wy_lemmas.proofs.Lists.{front as front_then, next_of}
 use Rattle.wy_term.specs.Nodes.{Plain}
-use Rattle.wy_conditions.specs.Numbered.{Node, numbered_block, numbered_stmt}
-use Rattle.wy_conditions.specs.Owed.{Owed}
-use Rattle.wy_conditions.specs.Sizes.{exprs_in_block, exprs_in_stmt}
-use Rattle.wy_conditions.specs.Spots.{Spot, Flow, goes, stops, and_then, go_on, followed}
-use Rattle.wy_conditions.specs.Statements as spec
+use Rattle.wy_vc_spec.specs.Numbered.{Node, numbered_block, numbered_stmt}
+use Rattle.wy_vc_spec.specs.Owed.{Owed}
+use Rattle.wy_vc_spec.specs.Sizes.{exprs_in_block, exprs_in_stmt}
+use Rattle.wy_vc_spec.specs.Spots.{Spot, Flow, goes, stops, and_then, go_on, followed}
+use Rattle.wy_vc_spec.specs.Statements as spec
+use Rattle.wy_vc_operations.proofs.GrowingLemmas.{kept_all}
 use Rattle.wy_vc_operations.specs.Growing.{Kept, AreBelow}
-use Rattle.wy_vc_actions.specs.declared.here.Here.{Here}
-use Rattle.wy_vc_expressions.specs.Slots.{AreSlots}
-use Rattle.wy_vc_expressions.specs.State.{IsGoal, IsSound, owed_of, seen_goal}
-use Rattle.wy_vc_expressions.specs.declared.goal.Goal.{Goal}
-use Rattle.wy_vc_expressions.specs.declared.walk.Walk.{Walk}
-use Rattle.wy_vc_expressions.proofs.NumberedLemmas.{kept_then}
-use Rattle.wy_vc_expressions.proofs.StateLemmas.{kept_all}
-use Rattle.wy_vc_actions.proofs.PathLemmas.{next_of, paths_on}
-use Rattle.wy_vc_actions.specs.declared.paths.Path.{Path}
-use Rattle.wy_vc_actions.specs.Paths.{ArePaths, IsEnd, seen_ends, spot_of}
-use Rattle.wy_vc_actions.specs.declared.frame.Frame.{Frame}
-use Rattle.wy_vc_actions.specs.Frames.{IsFrame, body_at}
-use Rattle.wy_vc_actions.specs.Going.{Went}
-use Rattle.wy_vc_actions.proofs.FrameLemmas.{body_kept, frame_on}
+use Rattle.wy_vc_body.specs.declared.here.Here.{Here}
+use Rattle.wy_vc_exprs.specs.Slots.{AreSlots}
+use Rattle.wy_vc_exprs.specs.State.{IsGoal, IsSound, owed_of, seen_goal}
+use Rattle.wy_vc_exprs.specs.declared.goal.Goal.{Goal}
+use Rattle.wy_vc_exprs.specs.declared.walk.Walk.{Walk}
+use Rattle.wy_vc_exprs.proofs.NumberedLemmas.{kept_then}
+use Rattle.wy_vc_body.proofs.PathLemmas.{paths_on}
+use Rattle.wy_vc_body.specs.declared.paths.Path.{Path}
+use Rattle.wy_vc_body.specs.Paths.{ArePaths, IsEnd, seen_ends, spot_of}
+use Rattle.wy_vc_body.specs.declared.frame.Frame.{Frame}
+use Rattle.wy_vc_body.specs.Frames.{IsFrame, body_at}
+use Rattle.wy_vc_body.specs.Going.{Went}
+use Rattle.wy_vc_body.proofs.FrameLemmas.{body_kept, frame_on}
 use Rattle.wy_vc.specs.Flows.{Flows}
 use Rattle.wy_vc.proofs.EndLemmas.{end_are, end_is, end_some, ends_kept, front_below}
-use Rattle.wy_vc.proofs.MoveLemmas.{front_long, front_then, longer_length}
+use Rattle.wy_vc.proofs.MoveLemmas.{front_long, longer_length}
 
 -- ---- what no `break` leaves
 

@@ -6,7 +6,7 @@ use Rattle.wy_core.specs.declared.expressions.Expr as e
 use Rattle.wy_core.specs.declared.statements.Stmt as st
 use Rattle.wy_core.specs.declared.statements.StmtKind as kind
 use Rattle.wy_core.specs.declared.statements.Step.{Step}
-use Rattle.wy_vc_actions.proofs.SeenLemmas.{seen_assign, seen_call, seen_if, seen_while}
+use Rattle.wy_vc_body.proofs.SeenLemmas.{seen_assign, seen_call, seen_if, seen_while}
 
 pub assign_of : (x : st.Stmt) (v : ℕ) (path path' : List Step) (value : e.Expr) → x.kind ≡ kind.Assign v path value → path' ≡ path → seen_stmt x ≡ tree.AssignStmt x.at v (map seen_step path') (seen_expr value)
 assign_of x v path path' value is same = seen_assign x v path value is ∙ ap (λ (l : List Step). tree.AssignStmt x.at v (map seen_step l) (seen_expr value)) (sym same)

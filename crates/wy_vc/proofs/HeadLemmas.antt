@@ -7,33 +7,34 @@ use Rattle.wy_core.specs.CoreTree.{Expr, Stmts}
 use Rattle.wy_term.specs.Term.{Term}
 use Rattle.wy_term.specs.Nodes.{Plain, tree_at}
 use Rattle.wy_term.specs.declared.cond.CondKind.TheVariants as kind
-use Rattle.wy_conditions.specs.Calls.{Walked}
-use Rattle.wy_conditions.specs.Clauses.{Passed, passed, owe_clauses}
-use Rattle.wy_conditions.specs.Joins as joins
-use Rattle.wy_conditions.specs.Making.{denied, formula}
-use Rattle.wy_conditions.specs.Numbered.{Node}
-use Rattle.wy_conditions.specs.Owed.{Owed, assume}
-use Rattle.wy_conditions.specs.Spots.{Spot, spot, Flow, with_hyps}
-use Rattle.wy_conditions.specs.Statements as spec
-use Rattle.wy_conditions.specs.Variables.{Vars}
-use Rattle.wy_vc_actions.specs.declared.here.Here.{Here}
+use Rattle.wy_vc_spec.specs.Calls.{Walked}
+use Rattle.wy_vc_spec.specs.Clauses.{Passed, passed, owe_clauses}
+use Rattle.wy_vc_spec.specs.Joins as joins
+use Rattle.wy_vc_spec.specs.Making.{denied, formula}
+use Rattle.wy_vc_spec.specs.Numbered.{Node}
+use Rattle.wy_vc_spec.specs.Owed.{Owed, assume}
+use Rattle.wy_vc_spec.specs.Spots.{Spot, spot, Flow, with_hyps}
+use Rattle.wy_vc_spec.specs.Statements as spec
+use Rattle.wy_vc_spec.specs.Variables.{Vars}
+use Rattle.wy_vc_body.specs.declared.here.Here.{Here}
+use Rattle.wy_vc_operations.proofs.GrowingLemmas.{kept_all}
 use Rattle.wy_vc_terms.specs.declared.maker.Maker.{Maker}
-use Rattle.wy_vc_expressions.specs.Numbered.{trees_of}
-use Rattle.wy_vc_expressions.specs.Slots.{AreSlots, slots_of}
-use Rattle.wy_vc_expressions.specs.State.{IsSound, Steps, hyps_of, owed_of, passed_by}
-use Rattle.wy_vc_expressions.specs.declared.walk.Walk.{Walk}
-use Rattle.wy_vc_expressions.proofs.NumberedLemmas.{kept_then, trees_kept}
-use Rattle.wy_vc_expressions.proofs.SlotLemmas.{slots_kept, slots_on}
-use Rattle.wy_vc_expressions.proofs.StateLemmas.{kept_all, steps_noded, steps_on}
-use Rattle.wy_vc_actions.proofs.PathLemmas.{paths_on}
-use Rattle.wy_vc_actions.specs.declared.paths.Path.{Path}
-use Rattle.wy_vc_actions.specs.Paths.{ArePaths, IsPath, IsSpot, Meets, seen_end, seen_ends, spot_of}
-use Rattle.wy_vc_actions.specs.declared.frame.Frame.{Frame}
-use Rattle.wy_vc_actions.specs.Frames.{IsFrame, body_at}
-use Rattle.wy_vc_actions.specs.Going.{Went}
-use Rattle.wy_vc_actions.specs.Loops.{Renews}
-use Rattle.wy_vc_actions.proofs.FrameLemmas.{body_kept, spot_behind}
-use Rattle.wy_vc_actions.proofs.ResultLemmas.{steps_from}
+use Rattle.wy_vc_exprs.specs.Numbered.{trees_of}
+use Rattle.wy_vc_exprs.specs.Slots.{AreSlots, slots_of}
+use Rattle.wy_vc_exprs.specs.State.{IsSound, Steps, hyps_of, owed_of, passed_by}
+use Rattle.wy_vc_exprs.specs.declared.walk.Walk.{Walk}
+use Rattle.wy_vc_exprs.proofs.NumberedLemmas.{kept_then, trees_kept}
+use Rattle.wy_vc_exprs.proofs.SlotLemmas.{slots_kept, slots_on}
+use Rattle.wy_vc_exprs.proofs.StateLemmas.{steps_noded, steps_on}
+use Rattle.wy_vc_body.proofs.PathLemmas.{paths_on}
+use Rattle.wy_vc_body.specs.declared.paths.Path.{Path}
+use Rattle.wy_vc_body.specs.Paths.{ArePaths, IsPath, IsSpot, Meets, seen_end, seen_ends, spot_of}
+use Rattle.wy_vc_body.specs.declared.frame.Frame.{Frame}
+use Rattle.wy_vc_body.specs.Frames.{IsFrame, body_at}
+use Rattle.wy_vc_body.specs.Going.{Went}
+use Rattle.wy_vc_body.specs.Loops.{Renews}
+use Rattle.wy_vc_body.proofs.FrameLemmas.{body_kept, spot_behind}
+use Rattle.wy_vc_body.proofs.ResultLemmas.{steps_from}
 use Rattle.wy_vc.specs.declared.branches.Tested.{Tested}
 use Rattle.wy_vc.specs.declared.heads.Head.{Head}
 use Rattle.wy_vc.specs.Branches.{IsTested}

@@ -50,11 +50,6 @@ none_pushed bs new k is inv = (
   λ n. ap (λ (l : List Bool). marked l n) is ∙ push_none bs inv.1 n,
 )
 
-pub marked_below : (bs : List Bool) (n : ℕ) → marked bs n ≡ true → n < length bs
-marked_below [] n h = absurd cc
-marked_below (b ∷ bs) zero h = omega arith
-marked_below (b ∷ bs) (suc n) h = let l = marked_below bs n h in omega (arith, l)
-
 -- a number that isn't past the marks is below their count
 pub not_past : (a b : ℕ) → nat_le a b ≡ false → b < a
 not_past a b e = elim (cases_lt b a) as (λ _. b < a) [ inl lt ↦ lt | inr past ↦ absurd (both_ways (nat_le a b) e (le-leb a b past)) ]

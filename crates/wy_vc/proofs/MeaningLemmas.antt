@@ -7,10 +7,10 @@ use Rattle.wy_sem.specs.TypeTests.{alias_at, no_alias}
 use Rattle.wy_term.specs.Term.{Term}
 use Rattle.wy_term.specs.Nodes.{Plain, tree_at}
 use Rattle.wy_term.specs.Numbers.{IsAt}
-use Rattle.wy_conditions.specs.Limits as limits
-use Rattle.wy_conditions.specs.Limits.{formulas_of, is_among, tests_in, tests_in_all}
-use Rattle.wy_conditions.specs.Numbered.{Node}
-use Rattle.wy_conditions.specs.Values.{Setting, defined, named_in, test_name, test_formula}
+use Rattle.wy_vc_spec.specs.Limits as limits
+use Rattle.wy_vc_spec.specs.Limits.{formulas_of, is_among, tests_in, tests_in_all}
+use Rattle.wy_vc_spec.specs.Numbered.{Node}
+use Rattle.wy_vc_spec.specs.Values.{Setting, defined, named_in, test_name, test_formula}
 use Rattle.wy_vc_operations.specs.Growing.{Kept}
 use Rattle.wy_vc.specs.Meanings.{AreMeanings, AreMeaningsFrom, IsMeaning, tests_at}
 use Rattle.wy_vc.specs.Mentioned.{reached, tested_by}
@@ -32,9 +32,6 @@ meaning_on old new s n m kept is = record {
 pub meanings_on : (old new : List Plain) (s : Setting Node) (n : ℕ) (ms : List Meaning) → Kept old new → AreMeaningsFrom old s n ms → AreMeaningsFrom new s n ms
 meanings_on old new s n [] kept are = tt
 meanings_on old new s n (m ∷ ms) kept are = (meaning_on old new s n m kept are.0, meanings_on old new s (suc n) ms kept are.1)
-
-pub are_meanings_on : (old new : List Plain) (s : Setting Node) (ms : List Meaning) → Kept old new → AreMeanings old s ms → AreMeanings new s ms
-are_meanings_on old new s ms kept are = record { count = are.count; are = meanings_on old new s 0 ms kept are.are }
 
 -- ---- one more
 
@@ -67,9 +64,6 @@ up_to_turn a b c s n ms ns m inv kept is pushed = subst (λ (l : List Meaning). 
     length_push : (l : List Meaning) → length (l ++ m ∷ []) ≡ length l + 1
     length_push [] = refl
     length_push (x ∷ l) = let r = length_push l in omega (arith, r)
-
-pub up_to_end : (a b : List Plain) (s : Setting Node) (n : ℕ) (ms : List Meaning) → n ≡ length s.types → IsMeaningUpTo a b s n ms → AreMeanings b s ms
-up_to_end a b s n ms all inv = record { count = inv.count ∙ all; are = inv.are }
 
 -- ---- what the test of a named type tests
 

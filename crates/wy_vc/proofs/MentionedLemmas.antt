@@ -2,10 +2,10 @@
 use Rattle.std.proofs.Common.{◌≡◌, ◌<◌, ◌≤◌, ◌⊎◌, inl, inr, ℕ, zero, suc, Bool, true, false, ◌&&◌, nat_lt, List, [], ◌∷◌, ◌++◌, length, slice_set, Option, Some, refl, sym, ◌∙◌, ap, subst, arith}
 use Rattle.std.specs.Prelude.{option_to_list}
 use Rattle.std.proofs.lemmas.Bool.{and_parts, both_ways, cases_lt, lt-ltb, ltb-true}
-use Rattle.wy_conditions.specs.Limits.{is_among}
-use Rattle.wy_vc_reach.proofs.BoundedLemmas.{Grows, bounded}
+use Rattle.wy_vc_spec.specs.Limits.{is_among}
+use Rattle.wy_lemmas.proofs.Choices.{same_test, both_true}
+use Rattle.wy_graph.proofs.reach_lemmas.BoundedLemmas.{Grows, bounded}
 use Rattle.wy_vc.proofs.AmongLemmas.{among_first, among_more, among_cases, among_left, among_right, among_either}
-use Rattle.wy_vc.proofs.SharedLemmas.{same_test}
 use Rattle.wy_vc.specs.Mentioned.{IsReached, IsReaching, IsSettled, marked, reached, tested_by}
 use Rattle.wy_vc.proofs.MarkLemmas.{set_length, set_here, set_keeps, set_only}
 
@@ -143,11 +143,6 @@ stays f P closed (suc j) ns begun n h = stays f P closed j (further f ns) next n
 abbrev steps_of : (ℕ → List ℕ) → ℕ → List ℕ → ℕ → ℕ → Bool
 steps_of f count begun zero n = false
 steps_of f count begun (suc j) n = nat_lt n count && is_among (reached f j begun) n
-
-both_true : (a b : Bool) → a ≡ true → b ≡ true → (a && b) ≡ true
-both_true true true p q = refl
-both_true true false p q = q
-both_true false b p q = p
 
 within_steps : (f : ℕ → List ℕ) (count : ℕ) (begun : List ℕ) → ((n : ℕ) → count ≤ n → f n ≡ []) → Grows (steps_of f count begun) count
 within_steps f count begun none = record {

@@ -1,18 +1,18 @@
 -- One walk behind another, where of the hypotheses the first so many stay.
 use Rattle.std.proofs.Common.{◌≡◌, ◌≤◌, ℕ, List, [], ◌++◌, length, take, Option, sym, ◌∙◌, ap, arith}
 use Rattle.std.proofs.lemmas.List.{append-nil, append_assoc, length-take, take-take, take_all}
-use Rattle.wy_conditions.specs.Clauses.{Passed}
-use Rattle.wy_conditions.specs.Joins as joins
-use Rattle.wy_conditions.specs.Owed.{Owed}
-use Rattle.wy_conditions.specs.Spots.{Flow}
-use Rattle.wy_conditions.specs.Statements as spec
-use Rattle.wy_vc_actions.specs.declared.here.Here.{Here}
-use Rattle.wy_vc_expressions.specs.State.{Steps, owed_of}
-use Rattle.wy_vc_expressions.specs.declared.walk.Walk.{Walk}
-use Rattle.wy_vc_expressions.proofs.NumberedLemmas.{kept_then}
-use Rattle.wy_vc_actions.specs.Paths.{IsEnd, Meets}
-use Rattle.wy_vc_actions.specs.Going.{Went}
-use Rattle.wy_vc_actions.specs.Loops.{Renews}
+use Rattle.wy_vc_spec.specs.Clauses.{Passed}
+use Rattle.wy_vc_spec.specs.Joins as joins
+use Rattle.wy_vc_spec.specs.Owed.{Owed}
+use Rattle.wy_vc_spec.specs.Spots.{Flow}
+use Rattle.wy_vc_spec.specs.Statements as spec
+use Rattle.wy_vc_body.specs.declared.here.Here.{Here}
+use Rattle.wy_vc_exprs.specs.State.{Steps, owed_of}
+use Rattle.wy_vc_exprs.specs.declared.walk.Walk.{Walk}
+use Rattle.wy_vc_exprs.proofs.NumberedLemmas.{kept_then}
+use Rattle.wy_vc_body.specs.Paths.{IsEnd, Meets}
+use Rattle.wy_vc_body.specs.Going.{Went}
+use Rattle.wy_vc_body.specs.Loops.{Renews}
 use Rattle.wy_vc.specs.Flows.{Moves}
 
 -- ---- counts
@@ -44,10 +44,6 @@ front_whole xs ys same = same ∙ take_all (length xs) xs (le_self (length xs))
 
 pub longer_length : (xs ys : List ℕ) → take (length xs) ys ≡ xs → length xs ≤ length ys
 longer_length xs ys longer = omega (arith, sym (ap length longer) ∙ length-take (length xs) ys)
-
--- one front behind the other
-pub front_then : (xs ys zs : List ℕ) → take (length xs) ys ≡ xs → take (length ys) zs ≡ ys → take (length xs) zs ≡ xs
-front_then xs ys zs first second = front_long (length xs) ys zs (longer_length xs ys first) second ∙ first
 
 -- ---- walks
 

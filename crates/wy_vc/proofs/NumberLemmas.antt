@@ -3,12 +3,12 @@ use Rattle.std.proofs.Common.{◌≡◌, ℕ, zero, suc, ◌+◌, Bool, false, L
 use Rattle.wy_core.specs.Types as ty
 use Rattle.wy_core.specs.CoreSeen.{seen_core}
 use Rattle.wy_core.specs.declared.declarations.Core.{Core}
-use Rattle.wy_conditions.specs.Named.{is_number_type}
-use Rattle.wy_conditions.specs.Numbered.{Node, numbered_core}
-use Rattle.wy_conditions.specs.Programs.{setting_of}
-use Rattle.wy_conditions.specs.Values.{Setting}
-use Rattle.wy_vc_names.specs.declared.program.Program.{Program}
-use Rattle.wy_vc_names.specs.Described.{is_number_in, setting, types_of}
+use Rattle.wy_vc_spec.specs.Named.{is_number_type}
+use Rattle.wy_vc_spec.specs.Numbered.{Node, numbered_core}
+use Rattle.wy_vc_spec.specs.Programs.{setting_of}
+use Rattle.wy_vc_spec.specs.Values.{Setting}
+use Rattle.wy_vc_tables.specs.declared.program_names.program.Program.{Program}
+use Rattle.wy_vc_tables.specs.program_names.Described.{is_number_in, setting, types_of}
 use mathlib.Core.Path.{fun_ext}
 
 -- ---- flow types

@@ -11,31 +11,32 @@ use Rattle.wy_core.specs.declared.declarations.Routine.{Routine}
 use Rattle.wy_core.specs.declared.expressions.Expr as e
 use Rattle.wy_term.specs.Term.{Term}
 use Rattle.wy_term.specs.Nodes.{Plain, tree_at}
-use Rattle.wy_conditions.specs.Clauses.{Passed, passed, assume_in_type}
-use Rattle.wy_conditions.specs.Making.{val_name}
-use Rattle.wy_conditions.specs.Numbered.{Node, numbered_alias, numbered_list, numbered_routine}
-use Rattle.wy_conditions.specs.Owed.{Owed}
-use Rattle.wy_conditions.specs.Programs as spec
-use Rattle.wy_conditions.specs.Sizes.{exprs_in_list}
-use Rattle.wy_conditions.specs.Spots.{Spot}
-use Rattle.wy_conditions.specs.Statements as run
-use Rattle.wy_conditions.specs.Statements.{Body, Renewed, walk_clauses}
-use Rattle.wy_conditions.specs.Values.{word_at}
-use Rattle.wy_conditions.specs.Variables.{Vars, put}
-use Rattle.wy_conditions.specs.Walks as walks
+use Rattle.wy_vc_spec.specs.Clauses.{Passed, passed, assume_in_type}
+use Rattle.wy_vc_spec.specs.Making.{val_name}
+use Rattle.wy_vc_spec.specs.Numbered.{Node, numbered_alias, numbered_list, numbered_routine}
+use Rattle.wy_vc_spec.specs.Owed.{Owed}
+use Rattle.wy_vc_spec.specs.Programs as spec
+use Rattle.wy_vc_spec.specs.Sizes.{exprs_in_list}
+use Rattle.wy_vc_spec.specs.Spots.{Spot}
+use Rattle.wy_vc_spec.specs.Statements as run
+use Rattle.wy_vc_spec.specs.Statements.{Body, Renewed, walk_clauses}
+use Rattle.wy_vc_spec.specs.Values.{word_at}
+use Rattle.wy_vc_spec.specs.Variables.{Vars, put}
+use Rattle.wy_vc_spec.specs.Walks as walks
+use Rattle.wy_vc_operations.proofs.GrowingLemmas.{kept_all}
 use Rattle.wy_vc_operations.specs.Growing.{Kept, AreBelow, Makes}
-use Rattle.wy_vc_actions.specs.declared.here.Here.{Here}
-use Rattle.wy_vc_expressions.specs.Numbered.{trees_of}
-use Rattle.wy_vc_expressions.specs.Slots.{AreSlots, slots_of}
-use Rattle.wy_vc_expressions.specs.State.{IsGoal, IsSound, Steps, hyps_of, owed_of, seen_goal}
-use Rattle.wy_vc_expressions.specs.declared.goal.Goal.{Goal}
-use Rattle.wy_vc_expressions.specs.declared.walk.Walk.{Walk}
-use Rattle.wy_vc_expressions.proofs.NumberedLemmas.{kept_then}
-use Rattle.wy_vc_expressions.proofs.SlotLemmas.{slots_kept, slots_on, slots_put, are_put}
-use Rattle.wy_vc_expressions.proofs.StateLemmas.{kept_all, steps_on, steps_as}
-use Rattle.wy_vc_expressions.proofs.GivenLemmas.{output_typed}
-use Rattle.wy_vc_actions.specs.Paths.{IsEnd}
-use Rattle.wy_vc_actions.specs.Loops.{Renews}
+use Rattle.wy_vc_body.specs.declared.here.Here.{Here}
+use Rattle.wy_vc_exprs.specs.Numbered.{trees_of}
+use Rattle.wy_vc_exprs.specs.Slots.{AreSlots, slots_of}
+use Rattle.wy_vc_exprs.specs.State.{IsGoal, IsSound, Steps, hyps_of, owed_of, seen_goal}
+use Rattle.wy_vc_exprs.specs.declared.goal.Goal.{Goal}
+use Rattle.wy_vc_exprs.specs.declared.walk.Walk.{Walk}
+use Rattle.wy_vc_exprs.proofs.NumberedLemmas.{kept_then}
+use Rattle.wy_vc_exprs.proofs.SlotLemmas.{slots_kept, slots_on, slots_put, are_put}
+use Rattle.wy_vc_exprs.proofs.StateLemmas.{steps_on, steps_as}
+use Rattle.wy_vc_exprs.proofs.GivenLemmas.{output_typed}
+use Rattle.wy_vc_body.specs.Paths.{IsEnd}
+use Rattle.wy_vc_body.specs.Loops.{Renews}
 use Rattle.wy_vc.specs.Entering.{Enters, Owes}
 
 -- ---- where something begins

@@ -6,18 +6,19 @@ use Rattle.std.proofs.Math.Dec.{eqb}
 use Rattle.std.proofs.lemmas.Bool.{cases_Bool, cond-true, cond-false, both_ways, le-ltb, or_cases, or_left}
 use Rattle.std.proofs.lemmas.List.{append-nil, append_assoc, drop_all, drop_more, take_more, take_all, take-append-drop, map-append}
 use Rattle.std.proofs.lemmas.List.Elements.{All-get_or, All-head, All-tail}
+use Rattle.wy_lemmas.proofs.Choices.{same_test}
 use Rattle.wy_term.specs.Term.{Term}
 use Rattle.wy_term.specs.Nodes.{Plain, tree_at}
 use Rattle.wy_term.specs.Condition.{entry_of}
 use Rattle.wy_term.specs.declared.cond.Cond.{Cond}
-use Rattle.wy_conditions.specs.Limits as spec
-use Rattle.wy_conditions.specs.Limits.{different, has_term, is_among, terms_in, terms_in_all, terms_of_unfold}
+use Rattle.wy_vc_spec.specs.Limits as spec
+use Rattle.wy_vc_spec.specs.Limits.{different, has_term, is_among, terms_in, terms_in_all, terms_of_unfold}
 use Rattle.wy_vc_operations.specs.Growing.{AreBelow}
 use Rattle.wy_vc.specs.Gathered.{AreGathered, AreHeld, Grown}
 use Rattle.wy_vc.specs.Shared.{AreApart, AreUnder}
 use Rattle.wy_vc.proofs.AmongLemmas.{among_first, among_cases, among_left, among_right, among_either, further_all, has_first, has_cases, has_either, has_left, has_right, in_root, root_in}
 use Rattle.wy_vc.proofs.CountLemmas.{apart_push, counted}
-use Rattle.wy_vc.proofs.SharedLemmas.{OneEach, listed_count, same_test, whole}
+use Rattle.wy_vc.proofs.SharedLemmas.{OneEach, listed_count, whole}
 use Rattle.wy_vc.proofs.DifferentLemmas.{IsWithin, different_within}
 use Rattle.wy_vc.specs.Counted.{IsBounded, IsCounted, is_over, passing_told, roots_of_entries, roots_of_goal, terms_told}
 use Rattle.wy_vc.specs.Told.{IsCond, IsEntry, Told, seen_cond}
@@ -147,32 +148,6 @@ seen_count nodes seen ts one c = sym (counted (tree_at nodes) seen.all.items ts 
 }))
 
 -- ---- a condition
-
-roots_push : (es : List (ℕ × ℕ × ℕ)) (e : ℕ × ℕ × ℕ) → roots_of_entries (es ++ e ∷ []) ≡ (roots_of_entries es ++ e.1 ∷ []) ++ e.2 ∷ []
-roots_push [] e = refl
-roots_push (x ∷ es) e = ap (λ (l : List ℕ). x.1 ∷ x.2 ∷ l) (roots_push es e)
-
--- what was listed, and what is left of the entries
-pub roots_turn : (es : List (ℕ × ℕ × ℕ)) (i : ℕ) (e : ℕ × ℕ × ℕ) (old mid new all : List ℕ) → i < length es → e ≡ get_or es i e → mid ≡ old ++ e.1 ∷ [] → new ≡ mid ++ e.2 ∷ []
-    → old ++ roots_of_entries (drop i es) ≡ all → new ++ roots_of_entries (drop (i + 1) es) ≡ all
-roots_turn es i e old mid new all lt is first second so =
-    let rest = roots_of_entries (drop (i + 1) es) in
-    ap (λ (l : List ℕ). l ++ rest) (second ∙ ap (λ (l : List ℕ). l ++ e.2 ∷ []) first)
-    ∙ append_assoc (old ++ e.1 ∷ []) (e.2 ∷ []) rest ∙ append_assoc old (e.1 ∷ []) (e.2 ∷ rest)
-    ∙ ap (λ (l : List (ℕ × ℕ × ℕ)). old ++ roots_of_entries l) (sym (drop_more es i e lt ∙ ap (λ (x : ℕ × ℕ × ℕ). x ∷ drop (i + 1) es) (sym is)))
-    ∙ so
-
--- the hypotheses behind so many of them
-pub behind_turn : (hyps : List ℕ) (i k : ℕ) (old new all : List ℕ) → i < length hyps → k ≡ get_or hyps i k → new ≡ old ++ k ∷ [] → old ++ drop i hyps ≡ all → new ++ drop (i + 1) hyps ≡ all
-behind_turn hyps i k old new all lt is pushed so =
-    ap (λ (l : List ℕ). l ++ drop (i + 1) hyps) pushed ∙ append_assoc old (k ∷ []) (drop (i + 1) hyps) ∙ ap (λ (l : List ℕ). old ++ l) (sym (drop_more hyps i k lt ∙ ap (λ (x : ℕ). x ∷ drop (i + 1) hyps) (sym is))) ∙ so
-
--- no hypothesis is left
-pub behind_end : (front : ℕ) (hyps : List ℕ) (i : ℕ) (roots : List ℕ) → length hyps ≤ i → roots ++ drop i hyps ≡ drop front hyps → roots ≡ drop front hyps
-behind_end front hyps i roots past so = sym (append-nil roots) ∙ ap (λ (l : List ℕ). roots ++ l) (sym (drop_all i hyps past)) ∙ so
-
-pub roots_begin : (front : ℕ) (hyps roots pushed : List ℕ) (goal : ℕ) (es : List (ℕ × ℕ × ℕ)) → roots ≡ drop front hyps → pushed ≡ roots ++ goal ∷ [] → pushed ++ roots_of_entries es ≡ drop front hyps ++ (goal ∷ roots_of_entries es)
-roots_begin front hyps roots pushed goal es same is = ap (λ (l : List ℕ). l ++ roots_of_entries es) (is ∙ ap (λ (l : List ℕ). l ++ goal ∷ []) same) ∙ append_assoc (drop front hyps) (goal ∷ []) (roots_of_entries es)
 
 terms_append : (ts us : List Term) → terms_in_all (ts ++ us) ≡ terms_in_all ts ++ terms_in_all us
 terms_append [] us = refl

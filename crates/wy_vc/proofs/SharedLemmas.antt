@@ -1,12 +1,13 @@
 -- The list of what terms are made of.
-use Rattle.std.proofs.Common.{◌≡◌, ◌⊎◌, inl, inr, ℕ, zero, suc, ◌<◌, ◌↔◌, List, [], ◌∷◌, ◌++◌, All, length, Bool, true, false, map, Some, Option, refl, sym, ap, subst, ◌∙◌, arith}
+use Rattle.std.proofs.Common.{◌≡◌, ◌⊎◌, inl, inr, ℕ, zero, suc, ◌<◌, ◌↔◌, List, [], ◌∷◌, ◌++◌, All, length, Bool, true, false, map, Some, Option, sym, ap, subst, ◌∙◌, arith}
 use Rattle.std.specs.Prelude.{option_to_list, if◌then◌else◌}
 use Rattle.std.proofs.Math.Dec.{eqb}
 use Rattle.std.proofs.lemmas.List.{append-nil, append_assoc}
 use Rattle.std.proofs.lemmas.Bool.{or_cases, or_left, cases_Bool, cond-true, cond-false, both_ways}
+use Rattle.wy_lemmas.proofs.Choices.{same_test}
 use Rattle.wy_term.specs.Term.{Term, Of}
 use Rattle.wy_term.specs.Nodes.{Plain, grown, parts_at, tree_at, HasPartsBelow}
-use Rattle.wy_conditions.specs.Limits.{different, has_term, is_among, terms_in, terms_in_parts, terms_in_all}
+use Rattle.wy_vc_spec.specs.Limits.{different, has_term, is_among, terms_in, terms_in_parts, terms_in_all}
 use Rattle.wy_vc.specs.Gathered.{Grown}
 use Rattle.wy_vc.specs.Shared.{AreUnder, IsKnown, IsListed, IsMadeOf}
 use Rattle.wy_vc.proofs.AmongLemmas.{among_first, among_cases, among_left, among_right, among_either, has_cases, has_more, further_all, part_in, in_part, root_in, in_root}
@@ -91,11 +92,6 @@ listed_count nodes roots all noted one listed = sym (counted (tree_at nodes) all
   whole = λ t h. whole nodes roots all noted listed t h;
   inside = λ j h. listed.inside j (inl h);
 }))
-
-pub same_test : (a b : Bool) → (a ≡ true → b ≡ true) → (b ≡ true → a ≡ true) → a ≡ b
-same_test true b f g = sym (f refl)
-same_test false true f g = g refl
-same_test false false f g = refl
 
 pub listed_value : (nodes : List Plain) (roots all : List ℕ) (noted : ℕ → Bool) → OneEach nodes → IsListed nodes roots all noted [] → (k : ℕ) → k < length nodes → is_among all k ≡ has_term (terms_in_all (map (tree_at nodes) roots)) (tree_at nodes k)
 listed_value nodes roots all noted one listed k lt = same_test (is_among all k) (has_term (terms_in_all (map (tree_at nodes) roots)) (tree_at nodes k)) (λ h. listed.inside k (inl h)) back

@@ -7,34 +7,35 @@ use Rattle.wy_core.specs.CoreTree as tree
 use Rattle.wy_term.specs.Term.{Term}
 use Rattle.wy_term.specs.Nodes.{Plain, tree_at}
 use Rattle.wy_term.specs.declared.cond.CondKind.TheVariants as kind
-use Rattle.wy_conditions.specs.Calls.{Walked, call_walk}
-use Rattle.wy_conditions.specs.Clauses.{Passed, passed, owe_clauses}
-use Rattle.wy_conditions.specs.Making.{any_of, falsehood, formula, val_name}
-use Rattle.wy_conditions.specs.Numbered.{Node, numbered, numbered_all}
-use Rattle.wy_conditions.specs.Owed.{assume, owe}
-use Rattle.wy_conditions.specs.Spots as spots
-use Rattle.wy_conditions.specs.Spots.{Spot, spot, Flow, goes, stops, mark}
-use Rattle.wy_conditions.specs.Statements as spec
-use Rattle.wy_conditions.specs.Values.{word_at}
-use Rattle.wy_conditions.specs.Variables.{Vars, put}
-use Rattle.wy_vc_expressions.specs.Walking.{walk_all_of, walk_of}
+use Rattle.wy_vc_spec.specs.Calls.{Walked, call_walk}
+use Rattle.wy_vc_spec.specs.Clauses.{Passed, passed, owe_clauses}
+use Rattle.wy_vc_spec.specs.Making.{any_of, falsehood, formula, val_name}
+use Rattle.wy_vc_spec.specs.Numbered.{Node, numbered, numbered_all}
+use Rattle.wy_vc_spec.specs.Owed.{assume, owe}
+use Rattle.wy_vc_spec.specs.Spots as spots
+use Rattle.wy_vc_spec.specs.Spots.{Spot, spot, Flow, goes, stops, mark}
+use Rattle.wy_vc_spec.specs.Statements as spec
+use Rattle.wy_vc_spec.specs.Values.{word_at}
+use Rattle.wy_vc_spec.specs.Variables.{Vars, put}
+use Rattle.wy_vc_exprs.specs.Walking.{walk_all_of, walk_of}
+use Rattle.wy_vc_operations.proofs.GrowingLemmas.{kept_all}
 use Rattle.wy_vc_operations.specs.Growing.{AreAt, AreBelow, Makes}
-use Rattle.wy_vc_actions.specs.declared.here.Here.{Here}
-use Rattle.wy_vc_expressions.specs.Numbered.{trees_of}
-use Rattle.wy_vc_expressions.specs.Slots.{AreSlots, slots_of}
-use Rattle.wy_vc_expressions.specs.State.{IsSound, Steps, Walks, WalksAll, hyps_of, owed_of, passed_by}
-use Rattle.wy_vc_expressions.specs.declared.walk.Walk.{Walk}
-use Rattle.wy_vc_expressions.proofs.SlotLemmas.{are_put, slots_kept, slots_on, slots_put}
-use Rattle.wy_vc_expressions.proofs.StateLemmas.{kept_all, owed_before, steps_as, steps_made, steps_on}
-use Rattle.wy_vc_expressions.proofs.WalkLemmas.{walks_many}
-use Rattle.wy_vc_actions.specs.declared.paths.Path.{Path}
-use Rattle.wy_vc_actions.specs.Paths.{ArePaths, spot_of}
-use Rattle.wy_vc_actions.specs.declared.frame.Frame.{Frame}
-use Rattle.wy_vc_actions.specs.Frames.{IsFrame, body_at}
-use Rattle.wy_vc_actions.specs.Going.{Went}
-use Rattle.wy_vc_actions.proofs.AssignLemmas.{steps_then_made}
-use Rattle.wy_vc_actions.proofs.FrameLemmas.{body_kept, went_goes, went_stops, spot_behind}
-use Rattle.wy_vc_actions.proofs.ValueLemmas.{given_walked}
+use Rattle.wy_vc_body.specs.declared.here.Here.{Here}
+use Rattle.wy_vc_exprs.specs.Numbered.{trees_of}
+use Rattle.wy_vc_exprs.specs.Slots.{AreSlots, slots_of}
+use Rattle.wy_vc_exprs.specs.State.{IsSound, Steps, Walks, WalksAll, hyps_of, owed_of, passed_by}
+use Rattle.wy_vc_exprs.specs.declared.walk.Walk.{Walk}
+use Rattle.wy_vc_exprs.proofs.SlotLemmas.{are_put, slots_kept, slots_on, slots_put}
+use Rattle.wy_vc_exprs.proofs.StateLemmas.{owed_before, steps_as, steps_made, steps_on}
+use Rattle.wy_vc_exprs.proofs.WalkLemmas.{walks_many}
+use Rattle.wy_vc_body.specs.declared.paths.Path.{Path}
+use Rattle.wy_vc_body.specs.Paths.{ArePaths, spot_of}
+use Rattle.wy_vc_body.specs.declared.frame.Frame.{Frame}
+use Rattle.wy_vc_body.specs.Frames.{IsFrame, body_at}
+use Rattle.wy_vc_body.specs.Going.{Went}
+use Rattle.wy_vc_body.proofs.AssignLemmas.{steps_then_made}
+use Rattle.wy_vc_body.proofs.FrameLemmas.{body_kept, went_goes, went_stops, spot_behind}
+use Rattle.wy_vc_body.proofs.ValueLemmas.{given_walked}
 use Rattle.wy_vc.specs.Flows.{Flows}
 use Rattle.wy_vc.proofs.EndLemmas.{way_is, way_ok}
 
@@ -122,11 +123,6 @@ returned_went frame around at r e a b c h is walk left =
     let left2 = subst (λ (t : Term). Steps b c (spec.leave B at (Some t) (hyps_of b) b.maker.count)) walk.is.is left1 in
     let out = spec.leave B at (Some w.term) w.hyps w.count in
     went_stops a c (passed out.count out.hyps (w.owed ++ out.owed)) (steps_on (λ hs n. spec.leave B at (Some w.term) hs n) a b c (passed_by w) walk.steps left2)
-
-pub left_went : (frame : Frame) (around : List (tree.Expr Node)) (at : ℕ) (a b : Walk) (h : Here)
-    → Steps a b (spec.leave (body_at a.maker.terms frame) at None (hyps_of a) a.maker.count)
-    → Went a b None (spec.exec (body_at a.maker.terms frame) around (tree.ReturnStmt at None) (spot_of a h) a.maker.count)
-left_went frame around at a b h s = went_stops a b (spec.leave (body_at a.maker.terms frame) at None (hyps_of a) a.maker.count) s
 
 -- ---- `assert` and `fail`
 

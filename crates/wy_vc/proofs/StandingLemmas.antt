@@ -3,20 +3,16 @@ use Rattle.std.proofs.Common.{◌≡◌, inl, inr, ℕ, zero, suc, ◌<◌, ◌�
 use Rattle.std.proofs.Math.Dec.{eqb}
 use Rattle.std.proofs.lemmas.List.{append-nil, append_assoc, length-append, map-append, take-append-le, take_all, take_more}
 use Rattle.std.proofs.lemmas.List.Elements.{All-get_or}
+use Rattle.wy_lemmas.proofs.Choices.{same_test, or_regrouped as or_assoc}
 use Rattle.wy_term.specs.Term.{Term}
 use Rattle.wy_term.specs.Nodes.{Plain, tree_at}
-use Rattle.wy_conditions.specs.Limits.{is_among, tests_in, tests_in_all}
+use Rattle.wy_vc_spec.specs.Limits.{is_among, tests_in, tests_in_all}
 use Rattle.wy_vc_operations.specs.Growing.{AreBelow}
 use Rattle.wy_vc.specs.Standing.{AreAlike, AreFirst, AreJoined, AreTested, Stand, Stands}
 use Rattle.wy_vc.specs.declared.standing.Standing.{Standing}
 use Rattle.wy_vc.proofs.AmongLemmas.{among_cases, among_either, among_left}
-use Rattle.wy_vc.proofs.SharedLemmas.{same_test}
 
 -- ---- numbers among numbers
-
-or_assoc : (a b c : Bool) → (a || (b || c)) ≡ ((a || b) || c)
-or_assoc true b c = refl
-or_assoc false b c = refl
 
 pub among_both : (ks js : List ℕ) (n : ℕ) → is_among (ks ++ js) n ≡ (is_among ks n || is_among js n)
 among_both [] js n = refl

@@ -1,14 +1,14 @@
 -- The tests in terms are those of the terms that they are made of.
 use Rattle.std.proofs.Common.{◌≡◌, ◌⊎◌, inl, inr, Bool, false, Option, Some, None, is_some, ℕ, zero, suc, ◌+◌, ◌<◌, List, [], ◌∷◌, ◌++◌, length, drop, take, get_or, true, map, Result, Ok, Err, IfOk, Vec, refl, sym, ap, subst, ◌∙◌, arith}
 use Rattle.std.proofs.lemmas.List.{drop_more, take_more, append_assoc}
+use Rattle.wy_lemmas.proofs.Choices.{same_test}
 use Rattle.wy_term.specs.Term as symbols
 use Rattle.wy_term.specs.Term.{Symbol, Term, Of, Parts, no_parts, part}
 use Rattle.wy_term.specs.Nodes.{Plain, grown, parts_at, tree_at}
-use Rattle.wy_conditions.specs.Limits.{has_term, is_among, terms_in, terms_in_parts, terms_in_all, tests_in, tests_in_parts, tests_in_all}
+use Rattle.wy_vc_spec.specs.Limits.{has_term, is_among, terms_in, terms_in_parts, terms_in_all, tests_in, tests_in_parts, tests_in_all}
 use Rattle.wy_vc.specs.Shared.{IsNamed}
 use Rattle.wy_vc.specs.Tested.{AreQuiet, listed_if, symbol_of, type_of, types_at}
 use Rattle.wy_vc.proofs.AmongLemmas.{among_first, among_more, among_cases, among_left, among_right, among_either, has_cases, has_either, has_first, has_left, has_more, has_right}
-use Rattle.wy_vc.proofs.SharedLemmas.{same_test}
 
 -- the tests of a term are its own, if it is one, and those of its parts
 own_first : (symbol : Symbol) (ps : Parts) → tests_in (Of symbol ps) ≡ listed_if (type_of symbol) ++ tests_in_parts ps
@@ -150,10 +150,6 @@ types_turn nodes ks i old new all lt is so =
     ap (λ (l : List ℕ). l ++ types_at nodes (drop (i + 1) ks)) is
     ∙ (append_assoc old (listed_if (type_of (symbol_of (tree_at nodes (get_or ks i 0))))) (types_at nodes (drop (i + 1) ks))
     ∙ (ap (λ (l : List ℕ). old ++ types_at nodes l) (sym (drop_more ks i 0 lt)) ∙ so))
-
--- the symbol of a node
-pub symbol_is : (nodes : List Plain) (t : ℕ) (n : Plain) → tree_at nodes t ≡ grown (tree_at nodes) n → type_of n.symbol ≡ type_of (symbol_of (tree_at nodes t))
-symbol_is nodes t n e = ap (λ (x : Term). type_of (symbol_of x)) (sym e)
 
 pub types_if : {E Z : Type 0} (nodes : List Plain) (roots all slice : List ℕ) (result : Result (Vec ℕ Z) E) → slice ≡ all → IfOk result (λ ns. ns.items ≡ types_at nodes slice)
     → ((k : ℕ) → is_among all k ≡ true → k < length nodes)

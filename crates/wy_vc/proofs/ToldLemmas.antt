@@ -1,22 +1,22 @@
 -- Goals with what their tests of named types stand for.
-use Rattle.std.proofs.Common.{◌≡◌, ◌<◌, ◌≤◌, ◌+◌, ℕ, suc, Bool, true, false, List, [], ◌∷◌, ◌++◌, All, length, map, drop, get_or, reverse, refl, sym, ◌∙◌, ap, subst, arith}
+use Rattle.std.proofs.Common.{◌≡◌, ◌<◌, ◌≤◌, ◌+◌, ℕ, suc, Bool, true, false, List, [], ◌∷◌, ◌++◌, All, length, map, reverse, refl, sym, ◌∙◌, ap, subst, arith}
 use Rattle.std.specs.Prelude.{if◌then◌else◌}
-use Rattle.std.proofs.lemmas.List.{append-nil, append_assoc, drop_more, map-append, reverse-append}
+use Rattle.std.proofs.lemmas.List.{append-nil, append_assoc, map-append, reverse-append}
 use Rattle.std.proofs.lemmas.List.Elements.{All-append, All-cons, All-nil, All-head, All-tail}
 use Rattle.wy_term.specs.Nodes.{Plain, tree_at}
 use Rattle.wy_term.specs.Term.{Term}
 use Rattle.wy_term.specs.Condition.{Entry, entry_of}
 use Rattle.wy_term.specs.declared.cond.Cond.{Cond}
 use Rattle.wy_term.specs.declared.cond.CondKind.{CondKind}
-use Rattle.wy_conditions.specs.Limits.{is_among, rising_among, tests_in_all, types_of, unfold_of, unfolded}
-use Rattle.wy_conditions.specs.Limits as limits
-use Rattle.wy_conditions.specs.Numbered.{Node}
-use Rattle.wy_conditions.specs.Owed.{Owed}
-use Rattle.wy_conditions.specs.Values.{Setting, test_name}
+use Rattle.wy_vc_spec.specs.Limits.{is_among, rising_among, tests_in_all, types_of, unfold_of, unfolded}
+use Rattle.wy_vc_spec.specs.Limits as limits
+use Rattle.wy_vc_spec.specs.Numbered.{Node}
+use Rattle.wy_vc_spec.specs.Owed.{Owed}
+use Rattle.wy_vc_spec.specs.Values.{Setting, test_name}
 use Rattle.wy_vc_operations.specs.Growing.{AreBelow}
-use Rattle.wy_vc_expressions.specs.Numbered.{trees_of}
-use Rattle.wy_vc_expressions.specs.State.{IsGoal, seen_goal}
-use Rattle.wy_vc_expressions.specs.declared.goal.Goal.{Goal}
+use Rattle.wy_vc_exprs.specs.Numbered.{trees_of}
+use Rattle.wy_vc_exprs.specs.State.{IsGoal, seen_goal}
+use Rattle.wy_vc_exprs.specs.declared.goal.Goal.{Goal}
 use Rattle.wy_vc.specs.Meanings.{AreMeanings, AreMeaningsFrom, IsMeaning, tests_at}
 use Rattle.wy_vc.specs.Mentioned.{IsReaching, marked}
 use Rattle.wy_vc.specs.Told.{IsCond, IsEntry, Told, entries_by, entry_if, seen_cond, told}
@@ -25,26 +25,6 @@ use Rattle.wy_vc.proofs.MeaningLemmas.{no_tests, reached_mentioned}
 use Rattle.wy_vc.proofs.MentionedLemmas.{marks_are}
 
 -- ---- entries
-
-pub entry_true : (b : Bool) (n : ℕ) (m : Meaning) (old new : List (ℕ × ℕ × ℕ)) → b ≡ true → new ≡ old ++ (n, m.name, m.formula) ∷ [] → new ≡ old ++ entry_if b n m
-entry_true b n m old new is pushed = pushed ∙ sym (ap (λ (x : Bool). old ++ entry_if x n m) is)
-
-pub entry_false : (b : Bool) (n : ℕ) (m : Meaning) (old : List (ℕ × ℕ × ℕ)) → b ≡ false → old ≡ old ++ entry_if b n m
-entry_false b n m old is = sym (append-nil old) ∙ sym (ap (λ (x : Bool). old ++ entry_if x n m) is)
-
--- the number of an entry
-pub entry_numbered : (b : Bool) (n k : ℕ) (m : Meaning) (old new : List (ℕ × ℕ × ℕ)) → b ≡ true → k ≡ n → new ≡ old ++ (k, m.name, m.formula) ∷ [] → new ≡ old ++ entry_if b n m
-entry_numbered b n k m old new is same pushed = entry_true b n m old new is (pushed ∙ ap (λ (j : ℕ). old ++ (j, m.name, m.formula) ∷ []) same)
-
-pub entries_turn : (marks : List Bool) (ms : List Meaning) (i : ℕ) (m : Meaning) (b : Bool) (old new all : List (ℕ × ℕ × ℕ)) → i < length ms → m ≡ get_or ms i m → b ≡ marked marks i → new ≡ old ++ entry_if b i m
-    → old ++ entries_by marks i (drop i ms) ≡ all → new ++ entries_by marks (i + 1) (drop (i + 1) ms) ≡ all
-entries_turn marks ms i m b old new all lt is mark pushed so =
-    let next : i + 1 ≡ suc i = omega arith in
-    ap (λ (l : List (ℕ × ℕ × ℕ)). l ++ entries_by marks (i + 1) (drop (i + 1) ms)) (pushed ∙ ap (λ (x : Bool). old ++ entry_if x i m) mark)
-    ∙ append_assoc old (entry_if (marked marks i) i m) (entries_by marks (i + 1) (drop (i + 1) ms))
-    ∙ ap (λ (j : ℕ). old ++ (entry_if (marked marks i) i m ++ entries_by marks j (drop (i + 1) ms))) next
-    ∙ ap (λ (l : List Meaning). old ++ entries_by marks i l) (sym (drop_more ms i m lt ∙ ap (λ (x : Meaning). x ∷ drop (i + 1) ms) (sym is)))
-    ∙ so
 
 -- the numbers of entries are those of terms
 entries_within : (nodes : List Plain) (s : Setting Node) (marks : List Bool) (n : ℕ) (ms : List Meaning) → AreMeaningsFrom nodes s n ms → All (IsEntry nodes) (entries_by marks n ms)
@@ -137,18 +117,6 @@ telling_turn nodes s old new all list more g c old_is more_is within is inv = su
       ∙ ap (λ (l : List Told). l ++ R) (sym (ap (λ (l : List Goal). map (told s) (map (seen_goal nodes) l)) old_is ∙ ap (λ (l : List Owed). map (told s) l) (map-append (seen_goal nodes) new (g ∷ [])) ∙ map-append (told s) (map (seen_goal nodes) new) (seen_goal nodes g ∷ [])))
       ∙ inv.value;
 })
-
-reverse_all : (nodes : List Plain) (xs : List Cond) → All (IsCond nodes) xs → All (IsCond nodes) (reverse xs)
-reverse_all nodes [] are = are
-reverse_all nodes (x ∷ xs) are = subst (λ (l : List Cond). All (IsCond nodes) l) (sym (reverse-append (x ∷ []) xs))
-    (All-append (IsCond nodes) (reverse xs) (x ∷ []) (reverse_all nodes xs (All-tail (IsCond nodes) x xs are)) (All-cons (IsCond nodes) x [] (All-head (IsCond nodes) x xs are) (All-nil (IsCond nodes))))
-
-pub telling_end : (nodes : List Plain) (s : Setting Node) (left all : List Goal) (list turned : List Cond) → left ≡ [] → turned ≡ reverse list → AreTold nodes s left list all → map (seen_cond nodes) turned ≡ map (told s) (map (seen_goal nodes) all)
-telling_end nodes s left all list turned none is inv =
-    ap (λ (l : List Cond). map (seen_cond nodes) l) is ∙ sym (ap (λ (l : List Goal). map (told s) (map (seen_goal nodes) l) ++ map (seen_cond nodes) (reverse list)) none) ∙ inv.value
-
-pub telling_within : (nodes : List Plain) (s : Setting Node) (left all : List Goal) (list turned : List Cond) → turned ≡ reverse list → AreTold nodes s left list all → All (IsCond nodes) turned
-telling_within nodes s left all list turned is inv = subst (λ (l : List Cond). All (IsCond nodes) l) (sym is) (reverse_all nodes list inv.within)
 
 -- each goal that is left has numbers of terms
 pub goal_at : (nodes : List Plain) (old new : List Goal) (g : Goal) → old ≡ new ++ g ∷ [] → All (IsGoal nodes) old → IsGoal nodes g × All (IsGoal nodes) new

@@ -2,17 +2,17 @@
 use Rattle.std.specs.Prelude.{◌≡◌, ◌≤◌, ℕ, List, [], length, take, Option}
 use Rattle.wy_term.specs.Nodes.{tree_at}
 use Rattle.wy_term.specs.Numbers.{IsAt}
-use Rattle.wy_conditions.specs.Making.{denied, formula}
-use Rattle.wy_conditions.specs.Owed.{assume}
-use Rattle.wy_conditions.specs.Clauses.{passed}
-use Rattle.wy_conditions.specs.Calls.{Walked}
-use Rattle.wy_conditions.specs.Spots.{as_list}
-use Rattle.wy_vc_actions.specs.declared.here.Here.{Here}
-use Rattle.wy_vc_expressions.specs.Numbered.{trees_of}
-use Rattle.wy_vc_expressions.specs.State.{Steps, hyps_of, passed_by}
-use Rattle.wy_vc_expressions.specs.declared.walk.Walk.{Walk}
-use Rattle.wy_vc_actions.specs.declared.paths.Path.{Path}
-use Rattle.wy_vc_actions.specs.Paths.{ArePaths, seen_ends}
+use Rattle.wy_vc_spec.specs.Making.{denied, formula}
+use Rattle.wy_vc_spec.specs.Owed.{assume}
+use Rattle.wy_vc_spec.specs.Clauses.{passed}
+use Rattle.wy_vc_spec.specs.Calls.{Walked}
+use Rattle.wy_vc_spec.specs.Spots.{as_list}
+use Rattle.wy_vc_body.specs.declared.here.Here.{Here}
+use Rattle.wy_vc_exprs.specs.Numbered.{trees_of}
+use Rattle.wy_vc_exprs.specs.State.{Steps, hyps_of, passed_by}
+use Rattle.wy_vc_exprs.specs.declared.walk.Walk.{Walk}
+use Rattle.wy_vc_body.specs.declared.paths.Path.{Path}
+use Rattle.wy_vc_body.specs.Paths.{ArePaths, seen_ends}
 use Rattle.wy_vc.specs.declared.branches.Fork.{Fork}
 use Rattle.wy_vc.specs.declared.branches.Tested.{Tested}
 use Rattle.wy_vc.specs.Flows.{Moves, end_of}

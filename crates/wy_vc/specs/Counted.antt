@@ -4,8 +4,8 @@ use Rattle.std.specs.HashSet.{contains}
 use Rattle.wy_term.specs.Term.{Term}
 use Rattle.wy_term.specs.Nodes.{Plain, tree_at}
 use Rattle.wy_term.specs.declared.cond.Cond.{Cond}
-use Rattle.wy_conditions.specs.Limits as spec
-use Rattle.wy_conditions.specs.Limits.{different, has_term, is_among, most_conditions, most_terms, most_terms_in_all, terms_in_all, terms_of_unfold}
+use Rattle.wy_vc_spec.specs.Limits as spec
+use Rattle.wy_vc_spec.specs.Limits.{different, has_term, is_among, most_conditions, most_terms, most_terms_in_all, terms_in_all, terms_of_unfold}
 use Rattle.wy_vc.specs.Gathered.{AreGathered}
 use Rattle.wy_vc.specs.Shared.{AreApart}
 use Rattle.wy_vc.specs.Told.{Told}

@@ -1,12 +1,12 @@
 -- What is known where contracts and bodies begin, and what declarations owe.
 use Rattle.std.specs.Prelude.{◌≡◌, ◌⊎◌, ℕ, List, [], ◌++◌, length, Option, true, nat_lt}
-use Rattle.wy_conditions.specs.Clauses.{passed}
-use Rattle.wy_conditions.specs.Owed.{Owed}
-use Rattle.wy_conditions.specs.Statements.{Renewed}
+use Rattle.wy_vc_spec.specs.Clauses.{passed}
+use Rattle.wy_vc_spec.specs.Owed.{Owed}
+use Rattle.wy_vc_spec.specs.Statements.{Renewed}
 use Rattle.wy_vc_operations.specs.Growing.{Kept}
-use Rattle.wy_vc_expressions.specs.Slots.{AreSlots, slots_of}
-use Rattle.wy_vc_expressions.specs.State.{IsSound, Steps, owed_of}
-use Rattle.wy_vc_expressions.specs.declared.walk.Walk.{Walk}
+use Rattle.wy_vc_exprs.specs.Slots.{AreSlots, slots_of}
+use Rattle.wy_vc_exprs.specs.State.{IsSound, Steps, owed_of}
+use Rattle.wy_vc_exprs.specs.declared.walk.Walk.{Walk}
 
 -- this is assumed, and the variables stand for these terms; nothing was owed
 pub record Enters (old new : Walk) (vs : List (Option ℕ)) (r : Renewed) : Type 0 where

@@ -1,16 +1,16 @@
 -- How statements go on, and the `break`s in them, by numbers of terms.
 use Rattle.std.specs.Prelude.{◌≡◌, ℕ, List, ◌++◌, take, Option, Some, None, option_map}
 use Rattle.wy_term.specs.Nodes.{Plain}
-use Rattle.wy_conditions.specs.Owed.{Owed}
-use Rattle.wy_conditions.specs.Spots.{Spot, Flow}
+use Rattle.wy_vc_spec.specs.Owed.{Owed}
+use Rattle.wy_vc_spec.specs.Spots.{Spot, Flow}
 use Rattle.wy_vc_operations.specs.Growing.{Kept}
-use Rattle.wy_vc_actions.specs.declared.here.Here.{Here}
-use Rattle.wy_vc_expressions.specs.Slots.{AreSlots}
-use Rattle.wy_vc_expressions.specs.State.{IsSound, owed_of}
-use Rattle.wy_vc_expressions.specs.declared.walk.Walk.{Walk}
-use Rattle.wy_vc_actions.specs.declared.paths.Path.{Path}
-use Rattle.wy_vc_actions.specs.Paths.{ArePaths, seen_ends, spot_of}
-use Rattle.wy_vc_actions.specs.Going.{Went}
+use Rattle.wy_vc_body.specs.declared.here.Here.{Here}
+use Rattle.wy_vc_exprs.specs.Slots.{AreSlots}
+use Rattle.wy_vc_exprs.specs.State.{IsSound, owed_of}
+use Rattle.wy_vc_exprs.specs.declared.walk.Walk.{Walk}
+use Rattle.wy_vc_body.specs.declared.paths.Path.{Path}
+use Rattle.wy_vc_body.specs.Paths.{ArePaths, seen_ends, spot_of}
+use Rattle.wy_vc_body.specs.Going.{Went}
 
 -- from the one walk to the other so much was owed, so many names were made, and a path goes on with this or none does; the paths of `break`s, which parted behind so many hypotheses, are those before and those of the statements
 pub record Flows (old new : Walk) (base : ℕ) (before after : List Path) (h : Option Here) (f : Flow) : Type 0 where

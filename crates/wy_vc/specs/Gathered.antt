@@ -3,7 +3,7 @@ use Rattle.std.specs.Prelude.{◌≡◌, ℕ, List, [], ◌++◌, map, nat_eq, t
 use Rattle.std.specs.HashSet.{contains}
 use Rattle.wy_term.specs.Term.{Term}
 use Rattle.wy_term.specs.Nodes.{Plain, tree_at}
-use Rattle.wy_conditions.specs.Limits.{has_term, is_among, terms_in_all}
+use Rattle.wy_vc_spec.specs.Limits.{has_term, is_among, terms_in_all}
 use Rattle.wy_vc.specs.Shared.{IsListed}
 use Rattle.wy_vc.specs.declared.shared.Gathered.{Gathered}
 

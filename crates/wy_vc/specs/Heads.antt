@@ -4,18 +4,18 @@ use Rattle.wy_core.specs.CoreTree.{Expr, Stmts}
 use Rattle.wy_term.specs.Nodes.{tree_at}
 use Rattle.wy_term.specs.Term.{Term}
 use Rattle.wy_term.specs.declared.cond.CondKind.TheVariants as kind
-use Rattle.wy_conditions.specs.Calls.{Walked}
-use Rattle.wy_conditions.specs.Clauses.{Passed, passed, owe_clauses}
-use Rattle.wy_conditions.specs.Joins.{meet}
-use Rattle.wy_conditions.specs.Owed.{assume}
-use Rattle.wy_conditions.specs.Spots.{Spot, spot, with_hyps, Flow}
-use Rattle.wy_conditions.specs.Statements as spec
-use Rattle.wy_vc_actions.specs.declared.here.Here.{Here}
-use Rattle.wy_vc_expressions.specs.Numbered.{trees_of}
-use Rattle.wy_vc_expressions.specs.Slots.{slots_of}
-use Rattle.wy_vc_expressions.specs.State.{Steps, hyps_of}
-use Rattle.wy_vc_expressions.specs.declared.walk.Walk.{Walk}
-use Rattle.wy_vc_actions.specs.Paths.{ArePaths, IsEnd, IsSpot, seen_ends}
+use Rattle.wy_vc_spec.specs.Calls.{Walked}
+use Rattle.wy_vc_spec.specs.Clauses.{Passed, passed, owe_clauses}
+use Rattle.wy_vc_spec.specs.Joins.{meet}
+use Rattle.wy_vc_spec.specs.Owed.{assume}
+use Rattle.wy_vc_spec.specs.Spots.{Spot, spot, with_hyps, Flow}
+use Rattle.wy_vc_spec.specs.Statements as spec
+use Rattle.wy_vc_body.specs.declared.here.Here.{Here}
+use Rattle.wy_vc_exprs.specs.Numbered.{trees_of}
+use Rattle.wy_vc_exprs.specs.Slots.{slots_of}
+use Rattle.wy_vc_exprs.specs.State.{Steps, hyps_of}
+use Rattle.wy_vc_exprs.specs.declared.walk.Walk.{Walk}
+use Rattle.wy_vc_body.specs.Paths.{ArePaths, IsEnd, IsSpot, seen_ends}
 use Rattle.wy_vc.specs.declared.branches.Tested.{Tested}
 use Rattle.wy_vc.specs.declared.heads.Head.{Head}
 use Rattle.wy_vc.specs.Flows.{Moves}

@@ -28,3 +28,7 @@ pub mod Counted
 pub mod Conjuncts
 -- the list of a program
 pub mod Listed
+-- passed on to the crates above
+pub use Rattle.wy_core.specs as wy_core
+pub use Rattle.wy_flow_spec.specs as wy_flow_spec
+pub use Rattle.wy_vc_spec.specs as wy_vc_spec

@@ -1,16 +1,16 @@
 -- The conditions of a well-typed program, and its limits.
 use Rattle.std.specs.Prelude.{◌≡◌, ◌⊎◌, List, [], ◌++◌, length, map, true, nat_lt}
-use Rattle.wy_conditions.specs.Limits as limits
-use Rattle.wy_conditions.specs.Numbered.{Node, numbered_core}
-use Rattle.wy_conditions.specs.Owed.{Owed}
-use Rattle.wy_conditions.specs.Programs.{conditions_of, setting_of}
-use Rattle.wy_conditions.specs.Values.{Setting}
+use Rattle.wy_vc_spec.specs.Limits as limits
+use Rattle.wy_vc_spec.specs.Numbered.{Node, numbered_core}
+use Rattle.wy_vc_spec.specs.Owed.{Owed}
+use Rattle.wy_vc_spec.specs.Programs.{conditions_of, setting_of}
+use Rattle.wy_vc_spec.specs.Values.{Setting}
 use Rattle.wy_term.specs.Condition.{condition_of}
 use Rattle.wy_term.specs.Unfolding.{AreListedOnce}
 use Rattle.wy_term.specs.Nodes.{Plain}
 use Rattle.wy_term.specs.declared.cond.Cond.{Cond}
 use Rattle.wy_term.specs.declared.cond.Conds.{Conds}
-use Rattle.wy_typing.specs.TypedPrograms.{Triple, core_of, flow_of}
+use Rattle.wy_flow_spec.specs.typing.TypedPrograms.{Triple, core_of, flow_of}
 use Rattle.wy_vc.specs.Told.{Told, seen_cond, told}
 use Rattle.wy_vc.specs.declared.fault.VcFault.{VcFault}
 use Rattle.wy_vc.specs.declared.fault.VcFault.TheVariants as fault

@@ -2,9 +2,9 @@
 use Rattle.std.specs.Prelude.{◌≡◌, ℕ, zero, suc, List, [], ◌∷◌, length}
 use Rattle.wy_term.specs.Nodes.{Plain}
 use Rattle.wy_term.specs.Numbers.{IsAt}
-use Rattle.wy_conditions.specs.Limits.{is_among, tests_in}
-use Rattle.wy_conditions.specs.Numbered.{Node}
-use Rattle.wy_conditions.specs.Values.{Setting, test_name, test_formula}
+use Rattle.wy_vc_spec.specs.Limits.{is_among, tests_in}
+use Rattle.wy_vc_spec.specs.Numbered.{Node}
+use Rattle.wy_vc_spec.specs.Values.{Setting, test_name, test_formula}
 use Rattle.wy_vc.specs.declared.unfolding.Meaning.{Meaning}
 
 -- this is what the test of the named type stands for, and these are the types that it tests

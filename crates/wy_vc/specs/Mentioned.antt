@@ -1,6 +1,6 @@
 -- Which named types are mentioned, where it is known which ones each one tests.
 use Rattle.std.specs.Prelude.{◌≡◌, ◌⊎◌, ℕ, zero, suc, ◌≤◌, List, [], ◌∷◌, ◌++◌, length, Bool, true, false}
-use Rattle.wy_conditions.specs.Limits.{is_among}
+use Rattle.wy_vc_spec.specs.Limits.{is_among}
 
 -- those that one of these tests
 abbrev pub tested_by : (ℕ → List ℕ) → List ℕ → List ℕ

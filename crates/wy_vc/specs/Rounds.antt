@@ -2,7 +2,7 @@
 use Rattle.std.specs.Prelude.{List}
 use Rattle.wy_core.specs.CoreTree as tree
 use Rattle.wy_core.specs.CoreSeen.{seen_exprs}
-use Rattle.wy_conditions.specs.Numbered.{Node, numbered_list}
+use Rattle.wy_vc_spec.specs.Numbered.{Node, numbered_list}
 use Rattle.wy_vc.specs.declared.rounds.Round.{Round}
 
 -- its invariants, each expression with its number

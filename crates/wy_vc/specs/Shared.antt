@@ -2,7 +2,7 @@
 use Rattle.std.specs.Prelude.{◌≡◌, ◌⊎◌, ℕ, ◌<◌, List, [], ◌∷◌, length, map, Bool, true, false}
 use Rattle.wy_term.specs.Term.{Symbol, Term, Of}
 use Rattle.wy_term.specs.Nodes.{Plain, tree_at, parts_at}
-use Rattle.wy_conditions.specs.Limits.{has_term, is_among, terms_in_all}
+use Rattle.wy_vc_spec.specs.Limits.{has_term, is_among, terms_in_all}
 
 -- the number is listed, or is to be
 abbrev pub IsKnown : List ℕ → List ℕ → ℕ → Type 0

@@ -1,7 +1,7 @@
 -- Hypotheses that stand one on the other, and the named types that they test.
 use Rattle.std.specs.Prelude.{◌≡◌, ℕ, ◌≤◌, List, [], ◌∷◌, ◌++◌, length, map, take}
 use Rattle.wy_term.specs.Nodes.{Plain, tree_at}
-use Rattle.wy_conditions.specs.Limits.{is_among, tests_in_all}
+use Rattle.wy_vc_spec.specs.Limits.{is_among, tests_in_all}
 use Rattle.wy_vc.specs.declared.standing.Standing.{Standing}
 
 -- the same numbers are among both

@@ -2,7 +2,7 @@
 use Rattle.std.specs.Prelude.{◌≡◌, ℕ, List, [], ◌∷◌, ◌++◌, Bool, true, false, get_or, Option, Some, None}
 use Rattle.wy_term.specs.Term.{Symbol, Term, Of, in_type}
 use Rattle.wy_term.specs.Nodes.{Plain, tree_at}
-use Rattle.wy_conditions.specs.Limits.{tests_in}
+use Rattle.wy_vc_spec.specs.Limits.{tests_in}
 
 -- the named type of a test
 abbrev pub type_of : Symbol → Option ℕ

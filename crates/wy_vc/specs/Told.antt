@@ -4,9 +4,9 @@ use Rattle.wy_term.specs.Nodes.{Plain}
 use Rattle.wy_term.specs.Condition.{Condition, condition_of}
 use Rattle.wy_term.specs.declared.cond.Cond.{Cond}
 use Rattle.wy_term.specs.declared.cond.CondKind.{CondKind}
-use Rattle.wy_conditions.specs.Limits.{unfold_of}
-use Rattle.wy_conditions.specs.Owed.{Owed}
-use Rattle.wy_conditions.specs.Values.{Setting}
+use Rattle.wy_vc_spec.specs.Limits.{unfold_of}
+use Rattle.wy_vc_spec.specs.Owed.{Owed}
+use Rattle.wy_vc_spec.specs.Values.{Setting}
 use Rattle.wy_vc_operations.specs.Growing.{AreBelow}
 use Rattle.wy_vc.specs.Mentioned.{marked}
 use Rattle.wy_vc.specs.declared.unfolding.Meaning.{Meaning}

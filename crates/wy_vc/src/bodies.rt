@@ -1,14 +1,14 @@
 //! What the body of a function or method owes.
 ghost use Rattle.std.specs.Prelude.{OnOk, Option};
-ghost use Rattle.wy_conditions.specs.Numbered.{numbered_routine};
-ghost use Rattle.wy_conditions.specs.Programs as spec;
-ghost use Rattle.wy_conditions.specs.Spots.{Spot};
+ghost use Rattle.wy_vc_spec.specs.Numbered.{numbered_routine};
+ghost use Rattle.wy_vc_spec.specs.Programs as spec;
+ghost use Rattle.wy_vc_spec.specs.Spots.{Spot};
 ghost use Rattle.wy_core.specs.CoreSeen.{seen_output, seen_routine};
-ghost use Rattle.wy_vc_actions.specs.Frames.{IsFrame, body_at, program_of};
+ghost use Rattle.wy_vc_body.specs.Frames.{IsFrame, body_at, program_of};
 ghost use Rattle.wy_vc.specs.Entering.{Owes};
-ghost use Rattle.wy_vc_actions.specs.Paths.{IsEnd};
-ghost use Rattle.wy_vc_names.specs.Described.{IsCalled, IsDescribed};
-ghost use Rattle.wy_vc_expressions.specs.State.{IsSound};
+ghost use Rattle.wy_vc_body.specs.Paths.{IsEnd};
+ghost use Rattle.wy_vc_tables.specs.program_names.Described.{IsCalled, IsDescribed};
+ghost use Rattle.wy_vc_exprs.specs.State.{IsSound};
 
 use crate::begin::begin;
 use crate::entry::enter;
@@ -16,9 +16,9 @@ use crate::executing::exec_body;
 use std::alloc::Global;
 use wy_core::{Core, Routine};
 use wy_term::NoMemory;
-use wy_vc_actions::{Frame, Here, declared_types, leave};
-use wy_vc_expressions::{Walk, assume_clauses};
-use wy_vc_names::{Called, Program};
+use wy_vc_body::{Frame, Here, declared_types, leave};
+use wy_vc_exprs::{Walk, assume_clauses};
+use wy_vc_tables::program_names::{Called, Program};
 
 // The end of a body that gives nothing back counts as a `return` at its declaration, where a path gets there; the end of one that gives
 // something back is never reached.

@@ -1,27 +1,27 @@
 //! What stands before, between and behind the blocks of an `if`.
 ghost use Rattle.std.specs.Prelude.{◌≡◌, ◌<◌, ◌≤◌, ◌+◌, ◌++◌, [], length as count_of, take, IfOk, OnOk};
-ghost use Rattle.wy_conditions.specs.Clauses.{passed};
-ghost use Rattle.wy_conditions.specs.Joins as joins;
-ghost use Rattle.wy_conditions.specs.Numbered.{numbered};
-ghost use Rattle.wy_conditions.specs.Owed.{assume as assumed};
-ghost use Rattle.wy_conditions.specs.Sizes as sizes;
-ghost use Rattle.wy_conditions.specs.Spots.{as_list, spot};
-ghost use Rattle.wy_conditions.specs.Statements as spec;
+ghost use Rattle.wy_vc_spec.specs.Clauses.{passed};
+ghost use Rattle.wy_vc_spec.specs.Joins as joins;
+ghost use Rattle.wy_vc_spec.specs.Numbered.{numbered};
+ghost use Rattle.wy_vc_spec.specs.Owed.{assume as assumed};
+ghost use Rattle.wy_vc_spec.specs.Sizes as sizes;
+ghost use Rattle.wy_vc_spec.specs.Spots.{as_list, spot};
+ghost use Rattle.wy_vc_spec.specs.Statements as spec;
 ghost use Rattle.wy_core.specs.CoreSeen.{seen_expr};
 ghost use Rattle.wy_term.specs.Nodes.{tree_at};
-ghost use Rattle.wy_vc_actions.specs.Frames.{IsFrame, body_at};
-ghost use Rattle.wy_vc_actions.specs.Paths.{ArePaths, IsPath, Meets, seen_end, seen_ends};
+ghost use Rattle.wy_vc_body.specs.Frames.{IsFrame, body_at};
+ghost use Rattle.wy_vc_body.specs.Paths.{ArePaths, IsPath, Meets, seen_end, seen_ends};
 ghost use Rattle.wy_vc.specs.Branches.{Forks, IsTested, Turns};
 ghost use Rattle.wy_vc.specs.Flows.{IsEndOf, end_of};
-ghost use Rattle.wy_vc_expressions.specs.Numbered.{trees_of};
-ghost use Rattle.wy_vc_expressions.specs.Slots.{AreSlots, slots_of};
-ghost use Rattle.wy_vc_expressions.specs.State.{IsSound, Steps, hyps_of};
+ghost use Rattle.wy_vc_exprs.specs.Numbered.{trees_of};
+ghost use Rattle.wy_vc_exprs.specs.Slots.{AreSlots, slots_of};
+ghost use Rattle.wy_vc_exprs.specs.State.{IsSound, Steps, hyps_of};
 
 use std::alloc::Global;
 use wy_core::Expr;
 use wy_term::NoMemory;
-use wy_vc_actions::{Frame, Here, Path, meet, path_here};
-use wy_vc_expressions::{Walk, walked};
+use wy_vc_body::{Frame, Here, Path, meet, path_here};
+use wy_vc_exprs::{Walk, walked};
 use wy_vc_operations::{denied, formula};
 
 /// A test that was walked: how many hypotheses there are behind it, and the formulas that it is true and that it is false, each by the

@@ -1,13 +1,13 @@
 //! What the declarations of a program owe.
 ghost use Rattle.std.specs.Prelude.{◌≡◌, ◌+◌, length as count_of, map, nat_lt, IfOk, OnOk};
-ghost use Rattle.wy_conditions.specs.Numbered.{exprs_in_decl, numbered_core, numbered_decl, numbered_decls, numbered_routine};
-ghost use Rattle.wy_conditions.specs.Programs as spec;
+ghost use Rattle.wy_vc_spec.specs.Numbered.{exprs_in_decl, numbered_core, numbered_decl, numbered_decls, numbered_routine};
+ghost use Rattle.wy_vc_spec.specs.Programs as spec;
 ghost use Rattle.wy_core.specs.CoreSeen.{seen_alias, seen_core, seen_decl, seen_routine};
 ghost use Rattle.wy_core.specs.CoreTree as tree;
-ghost use Rattle.wy_vc_actions.specs.Frames.{program_of};
+ghost use Rattle.wy_vc_body.specs.Frames.{program_of};
 ghost use Rattle.wy_vc.specs.Entering.{Owes, OwesFirst};
-ghost use Rattle.wy_vc_names.specs.Described.{IsCalled, IsDescribed};
-ghost use Rattle.wy_vc_expressions.specs.State.{IsSound};
+ghost use Rattle.wy_vc_tables.specs.program_names.Described.{IsCalled, IsDescribed};
+ghost use Rattle.wy_vc_exprs.specs.State.{IsSound};
 
 use crate::bodies::owe_body;
 use crate::contracts::owe_contract;
@@ -15,9 +15,9 @@ use crate::types::owe_type;
 use std::alloc::{AllocError, Global};
 use wy_core::{Alias, Core, Decl, Routine};
 use wy_term::NoMemory;
-use wy_vc_expressions::Walk;
-use wy_vc_names::{Called, Program};
-use wy_vc_sizes::{exprs_in_block, exprs_in_list, total};
+use wy_vc_exprs::Walk;
+use wy_vc_tables::program_names::{Called, Program};
+use wy_vc_tables::sizes::{exprs_in_block, exprs_in_list, total};
 
 // The numbers of the first expressions of a function's or method's parts, of which the very first has this number.
 fn called_at(routine: &Routine, decl: usize, first: usize) -> Result<Called, AllocError>

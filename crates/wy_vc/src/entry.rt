@@ -1,25 +1,25 @@
 //! What is known where a contract or a body begins, and of a result.
 ghost use Rattle.std.specs.Prelude.{◌≡◌, [], ◌∷◌, ℕ, map, Some, IfOk, OnOk};
-ghost use Rattle.wy_conditions.specs.Numbered.{numbered_routine};
-ghost use Rattle.wy_conditions.specs.Programs as spec;
-ghost use Rattle.wy_conditions.specs.Values.{word_if};
-ghost use Rattle.wy_conditions.specs.Variables as slots;
+ghost use Rattle.wy_vc_spec.specs.Numbered.{numbered_routine};
+ghost use Rattle.wy_vc_spec.specs.Programs as spec;
+ghost use Rattle.wy_vc_spec.specs.Values.{word_if};
+ghost use Rattle.wy_vc_spec.specs.Variables as slots;
 ghost use Rattle.wy_core.specs.CoreSeen.{seen_output, seen_param, seen_routine};
-ghost use Rattle.wy_vc_actions.specs.Loops.{Renews};
+ghost use Rattle.wy_vc_body.specs.Loops.{Renews};
 ghost use Rattle.wy_vc.specs.Entering.{Enters};
-ghost use Rattle.wy_vc_actions.specs.Paths.{spot_of};
-ghost use Rattle.wy_vc_names.specs.Described.{IsDescribed, setting};
-ghost use Rattle.wy_vc_expressions.specs.Slots.{AreSlots, slots_of};
-ghost use Rattle.wy_vc_expressions.specs.State.{IsSound, hyps_of};
+ghost use Rattle.wy_vc_body.specs.Paths.{spot_of};
+ghost use Rattle.wy_vc_tables.specs.program_names.Described.{IsDescribed, setting};
+ghost use Rattle.wy_vc_exprs.specs.Slots.{AreSlots, slots_of};
+ghost use Rattle.wy_vc_exprs.specs.State.{IsSound, hyps_of};
 
 use std::alloc::{AllocError, Global};
 use wy_core::{Core, Output, Param, Routine};
 use wy_data::Name;
 use wy_term::NoMemory;
-use wy_vc_actions::{Here, new_name};
-use wy_vc_expressions::{Walk, assume_in_type};
-use wy_vc_names::Program;
+use wy_vc_body::{Here, new_name};
+use wy_vc_exprs::{Walk, assume_in_type};
 use wy_vc_operations::{put, val_name};
+use wy_vc_tables::program_names::Program;
 use wy_vc_terms::{variable, word_of};
 
 // A parameter takes a new name, and has a value.

@@ -1,27 +1,27 @@
 //! What stands before and behind the body of a loop.
 ghost use Rattle.std.specs.Prelude.{◌≡◌, ◌<◌, ◌≤◌, ◌+◌, ℕ, length as count_of, take, IfOk, OnOk};
-ghost use Rattle.wy_conditions.specs.Numbered.{numbered, numbered_block, numbered_list};
-ghost use Rattle.wy_conditions.specs.Sizes as sizes;
-ghost use Rattle.wy_conditions.specs.Statements as spec;
+ghost use Rattle.wy_vc_spec.specs.Numbered.{numbered, numbered_block, numbered_list};
+ghost use Rattle.wy_vc_spec.specs.Sizes as sizes;
+ghost use Rattle.wy_vc_spec.specs.Statements as spec;
 ghost use Rattle.wy_core.specs.CoreSeen.{seen_block, seen_expr, seen_exprs};
-ghost use Rattle.wy_vc_actions.specs.Frames.{IsFrame, body_at};
-ghost use Rattle.wy_vc_actions.specs.Paths.{ArePaths, seen_ends, spot_of};
+ghost use Rattle.wy_vc_body.specs.Frames.{IsFrame, body_at};
+ghost use Rattle.wy_vc_body.specs.Paths.{ArePaths, seen_ends, spot_of};
 ghost use Rattle.wy_vc.specs.Branches.{IsTested};
 ghost use Rattle.wy_vc.specs.Flows.{IsEndOf, Moves, end_of};
 ghost use Rattle.wy_vc.specs.Heads.{Begins, Closes, Enters, Parts, closed, entered, tested};
 ghost use Rattle.wy_vc.specs.Rounds.{around};
-ghost use Rattle.wy_vc_expressions.specs.Numbered.{trees_of};
-ghost use Rattle.wy_vc_expressions.specs.Slots.{AreSlots, slots_of};
-ghost use Rattle.wy_vc_expressions.specs.State.{IsSound, hyps_of};
+ghost use Rattle.wy_vc_exprs.specs.Numbered.{trees_of};
+ghost use Rattle.wy_vc_exprs.specs.Slots.{AreSlots, slots_of};
+ghost use Rattle.wy_vc_exprs.specs.State.{IsSound, hyps_of};
 
 use crate::branches::{Tested, path_where, walk_test};
 use crate::rounds::Round;
 use std::alloc::Global;
 use wy_core::{Expr, Stmt};
 use wy_term::{CondKind, NoMemory};
-use wy_vc_actions::{Frame, Here, Path, meet, owe_invariants, renew, walk_clauses};
-use wy_vc_expressions::Walk;
-use wy_vc_sizes::{exprs_in, total};
+use wy_vc_body::{Frame, Here, Path, meet, owe_invariants, renew, walk_clauses};
+use wy_vc_exprs::Walk;
+use wy_vc_tables::sizes::{exprs_in, total};
 
 /// Where a turn of a loop begins: the number of the first expression of the invariants, how many hypotheses there are where the paths of
 /// the turn part, the paths that came behind the loop so far, and what is known of variables.

@@ -1,7 +1,7 @@
 //! The limits of a list of conditions.
 ghost use Rattle.std.specs.Prelude.{◌≡◌, ◌++◌, ◌∷◌, [], ◌<◌, ◌≤◌, ℕ, suc, List, All, true, false, nat_lt, take, drop, map, length as count_of, IfOk, OnOk};
-ghost use Rattle.wy_conditions.specs.Limits as limits;
-ghost use Rattle.wy_conditions.specs.Limits.{different, is_among};
+ghost use Rattle.wy_vc_spec.specs.Limits as limits;
+ghost use Rattle.wy_vc_spec.specs.Limits.{different, is_among};
 ghost use Rattle.wy_term.specs.Nodes.{Plain, tree_at};
 ghost use Rattle.wy_term.specs.Term.{Term};
 ghost use Rattle.wy_vc.specs.Counted as spec;

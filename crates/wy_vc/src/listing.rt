@@ -1,15 +1,15 @@
 //! The conditions of a program, within the limits.
 ghost use Rattle.std.specs.Prelude.{◌≡◌, [], suc, take, All, IfErr, IfOk};
-ghost use Rattle.wy_conditions.specs.Limits as limits;
-ghost use Rattle.wy_conditions.specs.Numbered.{numbered_core};
-ghost use Rattle.wy_conditions.specs.Programs as programs;
+ghost use Rattle.wy_vc_spec.specs.Limits as limits;
+ghost use Rattle.wy_vc_spec.specs.Numbered.{numbered_core};
+ghost use Rattle.wy_vc_spec.specs.Programs as programs;
 ghost use Rattle.wy_core.specs.CoreSeen.{seen_core};
 ghost use Rattle.wy_vc.specs.Listed as spec;
-ghost use Rattle.wy_vc_actions.specs.Frames.{program_of};
+ghost use Rattle.wy_vc_body.specs.Frames.{program_of};
 ghost use Rattle.wy_vc.specs.Counted.{seen_passing};
 ghost use Rattle.wy_vc.specs.Told.{IsCond};
-ghost use Rattle.wy_vc_names.specs.Described.{IsDescribed};
-ghost use Rattle.wy_vc_expressions.specs.State.{IsSound, owed_of};
+ghost use Rattle.wy_vc_tables.specs.program_names.Described.{IsDescribed};
+ghost use Rattle.wy_vc_exprs.specs.State.{IsSound, owed_of};
 
 use crate::declarations::owe_declarations;
 use crate::fault::VcFault;
@@ -19,10 +19,10 @@ use crate::telling::told_all;
 use crate::unfolding::meanings;
 use std::alloc::Global;
 use wy_core::Core;
+use wy_flow_spec::typing::Typed;
 use wy_term::{Conds, NoMemory};
-use wy_typing::Typed;
-use wy_vc_expressions::Walk;
-use wy_vc_names::Program;
+use wy_vc_exprs::Walk;
+use wy_vc_tables::program_names::Program;
 use wy_vc_terms::Maker;
 
 /// The most conditions of a program.

@@ -1,13 +1,13 @@
 //! Flow types of numbers.
 ghost use Rattle.std.specs.Prelude.{◌≡◌, map, IfOk};
 ghost use Rattle.wy_core.specs.CoreSeen.{conjuncts_of, seen_atom, seen_conjunct, seen_ty};
-ghost use Rattle.wy_conditions.specs.Named as named;
-ghost use Rattle.wy_typing.specs.TypedPrograms.{flow_of};
+ghost use Rattle.wy_vc_spec.specs.Named as named;
+ghost use Rattle.wy_flow_spec.specs.typing.TypedPrograms.{flow_of};
 ghost use Rattle.wy_vc.specs.Conjuncts as spec;
 
 use std::alloc::{AllocError, Global};
 use wy_core::{Atom, Conjunct, Ty, TyKind};
-use wy_typing::Typed;
+use wy_flow_spec::typing::Typed;
 
 // Whether an atom is that of numbers.
 fn is_whole(atom: &Atom) -> bool

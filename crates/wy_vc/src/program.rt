@@ -1,16 +1,16 @@
 //! The tables of a well-typed program.
 ghost use Rattle.std.specs.Prelude.{◌≡◌, IfOk};
 ghost use Rattle.wy_core.specs.CoreSeen.{seen_core};
-ghost use Rattle.wy_conditions.specs.Numbered.{numbered_core};
-ghost use Rattle.wy_conditions.specs.Programs.{setting_of};
-ghost use Rattle.wy_typing.specs.TypedPrograms.{flow_of};
-ghost use Rattle.wy_vc_names.specs.Described.{IsDescribed, setting};
+ghost use Rattle.wy_vc_spec.specs.Numbered.{numbered_core};
+ghost use Rattle.wy_vc_spec.specs.Programs.{setting_of};
+ghost use Rattle.wy_flow_spec.specs.typing.TypedPrograms.{flow_of};
+ghost use Rattle.wy_vc_tables.specs.program_names.Described.{IsDescribed, setting};
 
 use crate::numbers::numbers_of;
 use std::alloc::{AllocError, Global};
 use wy_core::Core;
-use wy_typing::Typed;
-use wy_vc_names::Program;
+use wy_flow_spec::typing::Typed;
+use wy_vc_tables::program_names::Program;
 use wy_vc_tables::program_of;
 
 /// What the conditions of a program ask of its declarations and its expressions, where these have the flow types of the typed program:

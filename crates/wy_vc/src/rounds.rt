@@ -1,21 +1,21 @@
 //! The loop around a statement.
 ghost use Rattle.std.specs.Prelude.{◌≡◌, ◌≤◌, length as count_of, None, IfOk, OnOk};
-ghost use Rattle.wy_conditions.specs.Spots as spots;
-ghost use Rattle.wy_conditions.specs.Statements as spec;
+ghost use Rattle.wy_vc_spec.specs.Spots as spots;
+ghost use Rattle.wy_vc_spec.specs.Statements as spec;
 ghost use Rattle.wy_core.specs.CoreTree as tree;
-ghost use Rattle.wy_vc_actions.specs.Frames.{IsFrame, body_at};
-ghost use Rattle.wy_vc_actions.specs.Going.{Went};
-ghost use Rattle.wy_vc_actions.specs.Paths.{ArePaths, spot_of};
+ghost use Rattle.wy_vc_body.specs.Frames.{IsFrame, body_at};
+ghost use Rattle.wy_vc_body.specs.Going.{Went};
+ghost use Rattle.wy_vc_body.specs.Paths.{ArePaths, spot_of};
 ghost use Rattle.wy_vc.specs.Flows.{Flows};
 ghost use Rattle.wy_vc.specs.Rounds.{around};
-ghost use Rattle.wy_vc_expressions.specs.Slots.{AreSlots};
-ghost use Rattle.wy_vc_expressions.specs.State.{IsSound};
+ghost use Rattle.wy_vc_exprs.specs.Slots.{AreSlots};
+ghost use Rattle.wy_vc_exprs.specs.State.{IsSound};
 
 use std::alloc::Global;
 use wy_core::Expr;
 use wy_term::{CondKind, NoMemory};
-use wy_vc_actions::{Frame, Here, Path, owe_invariants, path_here};
-use wy_vc_expressions::Walk;
+use wy_vc_body::{Frame, Here, Path, owe_invariants, path_here};
+use wy_vc_exprs::Walk;
 
 /// The loop around: its invariants, the number of the first of their expressions, and how many hypotheses there are where the paths of a
 /// turn part. Around what stands in no loop there are no invariants.

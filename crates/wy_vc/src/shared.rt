@@ -3,14 +3,14 @@ ghost use Rattle.std.specs.Prelude.{◌≡◌, ◌<◌, ◌++◌, ◌∷◌, [],
 ghost use Rattle.std.specs.HashSet.{contains};
 ghost use Rattle.wy_term.specs.Term.{Term};
 ghost use Rattle.wy_term.specs.Nodes.{Plain, tree_at};
-ghost use Rattle.wy_conditions.specs.Limits.{different, has_term, is_among, terms_in_all};
+ghost use Rattle.wy_vc_spec.specs.Limits.{different, has_term, is_among, terms_in_all};
 ghost use Rattle.wy_vc.specs.Gathered.{AreGathered, Grown};
 ghost use Rattle.wy_vc.specs.Shared.{AreUnder, IsListed, IsNamed};
 
 use std::alloc::Global;
 use std::collections::HashSet;
-use wy_subst::parts_of;
 use wy_term::{NoMemory, Terms};
+use wy_term_subst::parts_of;
 
 /// Terms, by their numbers, one behind the other, each once.
 #[derive(Drop)]

@@ -1,24 +1,24 @@
 //! Statements that hold no others.
 ghost use Rattle.std.specs.Prelude.{◌≡◌, ◌+◌, suc, List, [], map, None, Some, IfOk, OnOk};
-ghost use Rattle.wy_conditions.specs.Making.{val_name};
-ghost use Rattle.wy_conditions.specs.Numbered as numbers;
-ghost use Rattle.wy_conditions.specs.Sizes as sizes;
-ghost use Rattle.wy_conditions.specs.Spots as spots;
-ghost use Rattle.wy_conditions.specs.Statements as spec;
-ghost use Rattle.wy_conditions.specs.Values.{word_at};
+ghost use Rattle.wy_vc_spec.specs.Making.{val_name};
+ghost use Rattle.wy_vc_spec.specs.Numbered as numbers;
+ghost use Rattle.wy_vc_spec.specs.Sizes as sizes;
+ghost use Rattle.wy_vc_spec.specs.Spots as spots;
+ghost use Rattle.wy_vc_spec.specs.Statements as spec;
+ghost use Rattle.wy_vc_spec.specs.Values.{word_at};
 ghost use Rattle.wy_core.specs.CoreSeen.{seen_expr, seen_exprs, seen_option, seen_step, seen_ty};
 ghost use Rattle.wy_core.specs.CoreTree as tree;
-ghost use Rattle.wy_vc_actions.specs.Frames.{IsFrame, body_at};
-ghost use Rattle.wy_vc_actions.specs.Going.{Went};
-ghost use Rattle.wy_vc_actions.specs.Paths.{spot_of};
-ghost use Rattle.wy_vc_expressions.specs.Slots.{AreSlots};
-ghost use Rattle.wy_vc_expressions.specs.State.{IsSound};
+ghost use Rattle.wy_vc_body.specs.Frames.{IsFrame, body_at};
+ghost use Rattle.wy_vc_body.specs.Going.{Went};
+ghost use Rattle.wy_vc_body.specs.Paths.{spot_of};
+ghost use Rattle.wy_vc_exprs.specs.Slots.{AreSlots};
+ghost use Rattle.wy_vc_exprs.specs.State.{IsSound};
 
 use std::alloc::Global;
 use wy_core::{Expr, Step, Ty};
 use wy_term::{CondKind, NoMemory};
-use wy_vc_actions::{Frame, Here, assign, give, leave, new_name};
-use wy_vc_expressions::{Walk, call, walked, walked_all};
+use wy_vc_body::{Frame, Here, assign, give, leave, new_name};
+use wy_vc_exprs::{Walk, call, walked, walked_all};
 use wy_vc_operations::{disjunction, formula};
 
 // `int x`: the variable takes a new name, and has no value.

@@ -4,7 +4,7 @@
 //! and how many of these there were before each of them; so where they part the types of the shared front are at hand, and only what comes
 //! behind it is looked at.
 ghost use Rattle.std.specs.Prelude.{◌≡◌, ◌<◌, ◌++◌, ◌∷◌, [], ℕ, List, length as count_of, get_or, map, take, IfOk, OnOk};
-ghost use Rattle.wy_conditions.specs.Limits.{is_among, tests_in_all};
+ghost use Rattle.wy_vc_spec.specs.Limits.{is_among, tests_in_all};
 ghost use Rattle.wy_term.specs.Nodes.{Plain, tree_at};
 ghost use Rattle.wy_vc_operations.specs.Growing.{AreBelow};
 ghost use Rattle.wy_vc.specs.Standing as spec;

@@ -1,15 +1,15 @@
 //! Statements and blocks.
 ghost use Rattle.std.specs.Prelude.{◌≡◌, ◌<◌, ◌≤◌, ◌+◌, drop, length as count_of, IfOk, OnOk};
-ghost use Rattle.wy_conditions.specs.Numbered as numbers;
-ghost use Rattle.wy_conditions.specs.Sizes as sizes;
-ghost use Rattle.wy_conditions.specs.Statements as spec;
+ghost use Rattle.wy_vc_spec.specs.Numbered as numbers;
+ghost use Rattle.wy_vc_spec.specs.Sizes as sizes;
+ghost use Rattle.wy_vc_spec.specs.Statements as spec;
 ghost use Rattle.wy_core.specs.CoreSeen.{seen_block, seen_stmt};
-ghost use Rattle.wy_vc_actions.specs.Frames.{IsFrame, body_at};
-ghost use Rattle.wy_vc_actions.specs.Paths.{ArePaths, spot_of};
+ghost use Rattle.wy_vc_body.specs.Frames.{IsFrame, body_at};
+ghost use Rattle.wy_vc_body.specs.Paths.{ArePaths, spot_of};
 ghost use Rattle.wy_vc.specs.Flows.{Flows};
 ghost use Rattle.wy_vc.specs.Rounds.{around};
-ghost use Rattle.wy_vc_expressions.specs.Slots.{AreSlots};
-ghost use Rattle.wy_vc_expressions.specs.State.{IsSound};
+ghost use Rattle.wy_vc_exprs.specs.Slots.{AreSlots};
+ghost use Rattle.wy_vc_exprs.specs.State.{IsSound};
 
 use crate::branches::{begin_else, begin_if, end_if};
 use crate::heads::{begin_loop, end_loop};
@@ -18,9 +18,9 @@ use crate::simple::{assign_part, call_method, declare, hold, leave_body, never};
 use std::alloc::Global;
 use wy_core::{Stmt, StmtKind};
 use wy_term::NoMemory;
-use wy_vc_actions::{Frame, Here, Path};
-use wy_vc_expressions::Walk;
-use wy_vc_sizes::exprs_in_block;
+use wy_vc_body::{Frame, Here, Path};
+use wy_vc_exprs::Walk;
+use wy_vc_tables::sizes::exprs_in_block;
 
 // The statements behind this one, which no path gets to, owe nothing, and their expressions have numbers.
 fn pass_over(walk: &mut Walk, block: &[Stmt], index: usize) -> Result<(), NoMemory>

@@ -1,12 +1,12 @@
 //! Goals with what their tests of named types stand for.
 ghost use Rattle.std.specs.Prelude.{◌≡◌, ◌++◌, All, map, IfOk, OnOk};
-ghost use Rattle.wy_conditions.specs.Numbered.{Node};
-ghost use Rattle.wy_conditions.specs.Values.{Setting};
+ghost use Rattle.wy_vc_spec.specs.Numbered.{Node};
+ghost use Rattle.wy_vc_spec.specs.Values.{Setting};
 ghost use Rattle.wy_vc.specs.Meanings.{AreMeanings};
 ghost use Rattle.wy_vc.specs.Standing.{Stands};
 ghost use Rattle.wy_vc.specs.Tested.{AreQuiet};
 ghost use Rattle.wy_vc.specs.Told as spec;
-ghost use Rattle.wy_vc_expressions.specs.State.{IsGoal, seen_goal};
+ghost use Rattle.wy_vc_exprs.specs.State.{IsGoal, seen_goal};
 
 use crate::mentioned::{is_marked, mentioned};
 use crate::small::small;
@@ -15,7 +15,7 @@ use crate::testing::testing_terms;
 use crate::unfolding::Meaning;
 use std::alloc::{AllocError, Global};
 use wy_term::{Cond, NoMemory, Terms, Unfold};
-use wy_vc_expressions::Goal;
+use wy_vc_exprs::Goal;
 
 // Puts a named type behind others, with what its test stands for, where it is marked.
 fn put_entry(

@@ -3,13 +3,13 @@
 //! Most terms test none, nor do those that they are made of, and these need no walk.
 ghost use Rattle.std.specs.Prelude.{◌≡◌, ◌<◌, ◌∷◌, [], ℕ, get_or, length, map, true, false, IfOk};
 ghost use Rattle.wy_term.specs.Nodes.{tree_at};
-ghost use Rattle.wy_conditions.specs.Limits.{is_among, tests_in, tests_in_all};
+ghost use Rattle.wy_vc_spec.specs.Limits.{is_among, tests_in, tests_in_all};
 ghost use Rattle.wy_vc.specs.Tested as spec;
 
 use crate::small::small;
 use crate::tests_of_types::{type_of, types_tested};
-use wy_subst::parts_of;
 use wy_term::{NoMemory, Terms};
+use wy_term_subst::parts_of;
 
 // Whether a term is marked. One that has no mark counts as marked.
 fn is_testing(marks: &[bool], number: u32) -> bool

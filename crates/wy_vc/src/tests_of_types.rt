@@ -1,7 +1,7 @@
 //! The named types that terms test.
 ghost use Rattle.std.specs.Prelude.{◌≡◌, ◌<◌, ◌++◌, ℕ, length, map, true, IfOk, OnOk};
 ghost use Rattle.wy_term.specs.Nodes.{plain, tree_at};
-ghost use Rattle.wy_conditions.specs.Limits.{is_among, tests_in_all};
+ghost use Rattle.wy_vc_spec.specs.Limits.{is_among, tests_in_all};
 ghost use Rattle.wy_vc.specs.Tested as spec;
 
 use crate::shared::made_of_all;

@@ -1,21 +1,21 @@
 //! What the clauses of a type owe.
 ghost use Rattle.std.specs.Prelude.{Some, OnOk};
-ghost use Rattle.wy_conditions.specs.Numbered.{numbered_alias};
-ghost use Rattle.wy_conditions.specs.Programs as spec;
+ghost use Rattle.wy_vc_spec.specs.Numbered.{numbered_alias};
+ghost use Rattle.wy_vc_spec.specs.Programs as spec;
 ghost use Rattle.wy_core.specs.CoreSeen.{seen_alias};
-ghost use Rattle.wy_vc_actions.specs.Frames.{program_of};
+ghost use Rattle.wy_vc_body.specs.Frames.{program_of};
 ghost use Rattle.wy_vc.specs.Entering.{Owes};
-ghost use Rattle.wy_vc_names.specs.Described.{IsDescribed};
-ghost use Rattle.wy_vc_expressions.specs.State.{IsSound};
+ghost use Rattle.wy_vc_tables.specs.program_names.Described.{IsDescribed};
+ghost use Rattle.wy_vc_exprs.specs.State.{IsSound};
 
 use crate::begin::begin;
 use std::alloc::Global;
 use wy_core::{Alias, Core};
 use wy_term::NoMemory;
-use wy_vc_actions::{new_name, walk_clauses};
-use wy_vc_expressions::{Walk, assume_in_type};
-use wy_vc_names::Program;
+use wy_vc_body::{new_name, walk_clauses};
+use wy_vc_exprs::{Walk, assume_in_type};
 use wy_vc_operations::put;
+use wy_vc_tables::program_names::Program;
 
 // What the clauses owe, the first of whose expressions has this number: of a name that is in the type's definition.
 fn owe_type_clauses(

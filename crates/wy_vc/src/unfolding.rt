@@ -2,7 +2,7 @@
 ghost use Rattle.std.specs.Prelude.{◌≡◌, ◌<◌, length as count_of, IfOk, OnOk};
 ghost use Rattle.wy_term.specs.Nodes.{Plain};
 ghost use Rattle.wy_vc.specs.Meanings as spec;
-ghost use Rattle.wy_vc_names.specs.Described.{IsDescribed, setting};
+ghost use Rattle.wy_vc_tables.specs.program_names.Described.{IsDescribed, setting};
 ghost use Rattle.wy_vc_operations.specs.Growing.{Kept};
 
 use crate::small::small;
@@ -10,7 +10,7 @@ use crate::tests_of_types::types_tested;
 use std::alloc::Global;
 use wy_core::Core;
 use wy_term::NoMemory;
-use wy_vc_names::Program;
+use wy_vc_tables::program_names::Program;
 use wy_vc_terms::{Maker, type_formula};
 
 /// What the test of a named type stands for: a Val name and a formula, by the numbers of terms, and the named types that the formula tests.

@@ -5,7 +5,7 @@ use Rattle.wy_term.specs.Term.{Symbol, Term, Of, Parts, no_parts, part}
 use Rattle.wy_term.specs.Nodes.{Plain, tree_at, parts_at}
 use Rattle.wy_term.specs.Numbers.{IsAt}
 use Rattle.wy_term.specs.Folding.{folded}
-use Rattle.wy_conditions.specs.Making.{of_one, of_two, of_three, of_all, parts_of}
+use Rattle.wy_vc_spec.specs.Making.{of_one, of_two, of_three, of_all, parts_of}
 use Rattle.wy_vc_operations.specs.Growing.{Kept, Makes, AreAt, AreBelow}
 
 pub kept_all : (ns : List Plain) → Kept ns ns

@@ -3,7 +3,7 @@ use Rattle.std.proofs.Common.{◌≡◌, ◌<◌, ◌≤◌, ℕ, zero, suc, Lis
 use Rattle.wy_term.specs.Term.{Term}
 use Rattle.wy_term.specs.Nodes.{Plain, tree_at}
 use Rattle.wy_term.specs.Numbers.{IsAt}
-use Rattle.wy_conditions.specs.Variables.{Slots, Vars, slot_at, put}
+use Rattle.wy_vc_spec.specs.Variables.{Slots, Vars, slot_at, put}
 use Rattle.wy_vc_operations.specs.Growing.{Kept, AreSlotsAt, AreSlotsBelow, IsSlotBelow}
 
 -- ---- putting

@@ -3,7 +3,7 @@ use Rattle.std.specs.Prelude.{◌≡◌, ℕ, ◌<◌, ◌≤◌, List, [], ◌�
 use Rattle.wy_term.specs.Term.{Term}
 use Rattle.wy_term.specs.Nodes.{Plain, tree_at}
 use Rattle.wy_term.specs.Numbers.{IsAt}
-use Rattle.wy_conditions.specs.Variables.{Vars}
+use Rattle.wy_vc_spec.specs.Variables.{Vars}
 
 -- what the old numbers name, they still name
 pub record Kept (old new : List Plain) : Type 0 where

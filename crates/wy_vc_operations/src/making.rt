@@ -1,7 +1,7 @@
 //! A function for each form of term. The term is folded as it is made; older numbers name what they named.
 ghost use Rattle.std.specs.Prelude.{◌≡◌, ◌<◌, ◌≤◌, true, false, ℕ, List, length as count_of, map, IfOk, OnOk};
-ghost use Rattle.wy_conditions.specs.Making as made;
-ghost use Rattle.wy_conditions.specs.Operations as op;
+ghost use Rattle.wy_vc_spec.specs.Making as made;
+ghost use Rattle.wy_vc_spec.specs.Operations as op;
 ghost use Rattle.wy_term.specs.Folding.{folded};
 ghost use Rattle.wy_term.specs.Nodes.{HasPartsBelow, grown, plain, plain_kind, tree_at};
 ghost use Rattle.wy_term.specs.Numbers.{IsAt};

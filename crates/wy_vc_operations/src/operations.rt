@@ -1,7 +1,7 @@
 //! The term of each operation, whose parts are terms already.
 ghost use Rattle.std.specs.Prelude.{◌≡◌, ◌<◌, ◌≤◌, ◌∷◌, [], true, false, length as count_of, IfOk, OnOk};
-ghost use Rattle.wy_conditions.specs.Making as made;
-ghost use Rattle.wy_conditions.specs.Operations as spec;
+ghost use Rattle.wy_vc_spec.specs.Making as made;
+ghost use Rattle.wy_vc_spec.specs.Operations as spec;
 ghost use Rattle.wy_term.specs.Nodes.{tree_at};
 ghost use Rattle.wy_term.specs.Numbers.{IsAt};
 ghost use Rattle.wy_term.specs.Term as term;

@@ -1,6 +1,6 @@
 //! The term of each variable that has one.
 ghost use Rattle.std.specs.Prelude.{◌≡◌, ◌<◌, ℕ, List, Option, length as count_of, slice_set, OnOk};
-ghost use Rattle.wy_conditions.specs.Variables as spec;
+ghost use Rattle.wy_vc_spec.specs.Variables as spec;
 
 use std::alloc::AllocError;
 

@@ -2,12 +2,12 @@
 use Rattle.std.proofs.Common.{◌≡◌, ℕ, zero, suc, ◌+◌, Bool, not, ◌&&◌, ◌||◌, ◌==◌, nat_le, if◌then◌else◌, List, [], ◌∷◌, length, map, refl, ap, ◌∙◌, arith}
 use Rattle.std.proofs.lemmas.List.{length-map}
 use Rattle.wy_core.specs.CoreTree.{Expr, Alias}
-use Rattle.wy_sem.specs.TypeTests.{alias_at, has_clauses, mentions, is_constrained_name}
-use Rattle.wy_conditions.specs.Named as named
-use Rattle.wy_conditions.specs.Named.{alias_mentions, nodes_of_alias, nodes_of_ty, nodes_of_clauses, some_test_in}
-use Rattle.wy_vc_reach.specs.declared.entries.Entry.{Entry}
-use Rattle.wy_vc_reach.specs.Reach as reach
-use Rattle.wy_vc_reach.specs.Reach.{entry_at, names_at, no_entry, nodes_of, some, sum_of}
+use Rattle.wy_vc_spec.specs.wy_sem.TypeTests.{alias_at, has_clauses, mentions, is_constrained_name}
+use Rattle.wy_vc_spec.specs.Named as named
+use Rattle.wy_vc_spec.specs.Named.{alias_mentions, nodes_of_alias, nodes_of_ty, nodes_of_clauses, some_test_in}
+use Rattle.wy_graph.specs.declared.reach.entries.Entry.{Entry}
+use Rattle.wy_graph.specs.reach.Reach as reach
+use Rattle.wy_graph.specs.reach.Reach.{entry_at, names_at, no_entry, nodes_of, some, sum_of}
 use Rattle.wy_vc_tables.specs.Mentions.{with_ty, with_clauses, entry_of}
 use Rattle.wy_vc_tables.proofs.MentionLemmas.{some_ty, some_clauses, sum_ty, sum_clauses}
 

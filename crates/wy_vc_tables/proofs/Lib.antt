@@ -8,3 +8,5 @@ pub mod NumberedLemmas
 pub mod EntryLemmas
 -- the tables are those of the program
 pub mod TableLemmas
+pub mod program_names_lemmas
+pub mod sizes_lemmas

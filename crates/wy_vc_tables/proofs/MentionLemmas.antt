@@ -1,19 +1,12 @@
 -- What is told of the names in types and expressions is told of these.
-use Rattle.std.proofs.Common.{◌≡◌, ℕ, ◌+◌, Bool, true, false, ◌||◌, List, [], ◌∷◌, ◌++◌, refl, sym, ap, ◌∙◌, arith}
+use Rattle.std.proofs.Common.{◌≡◌, ℕ, ◌+◌, Bool, ◌||◌, List, [], ◌∷◌, ◌++◌, refl, sym, ap, ◌∙◌, arith}
 use Rattle.wy_core.specs.Types.{Ty, NullTy, BoolTy, IntTy, AnyTy, VoidTy, RecordTy, ArrayTy, UnionTy, InterTy, NotTy, NamedTy, NormalTy, FieldTys, NoFieldTys, MoreFieldTys}
 use Rattle.wy_core.specs.CoreTree.{Expr, NullExpr, BoolExpr, IntExpr, VarExpr, CallExpr, NegExpr, NotExpr, LenExpr, BinaryExpr, IsExpr, IndexExpr, FieldExpr, ListExpr, RepeatExpr, RecordExpr, QuantExpr, Exprs, NoExprs, MoreExprs, Fields, NoFields, MoreFields}
-use Rattle.wy_sem.specs.TypeTests.{mentions, mentions_fields}
-use Rattle.wy_conditions.specs.Named.{some_test, some_test_all, some_test_fields, some_test_in, nodes_of_ty, nodes_of_fields, nodes_of_expr, nodes_of_exprs, nodes_of_values, nodes_of_clauses}
-use Rattle.wy_vc_reach.specs.Reach.{some, sum_of}
+use Rattle.wy_lemmas.proofs.Choices.{or_not as or_false, or_assoc}
+use Rattle.wy_vc_spec.specs.wy_sem.TypeTests.{mentions, mentions_fields}
+use Rattle.wy_vc_spec.specs.Named.{some_test, some_test_all, some_test_fields, some_test_in, nodes_of_ty, nodes_of_fields, nodes_of_expr, nodes_of_exprs, nodes_of_values, nodes_of_clauses}
+use Rattle.wy_graph.specs.reach.Reach.{some, sum_of}
 use Rattle.wy_vc_tables.specs.Mentions.{with_ty, with_field_tys, with_expr, with_exprs, with_fields, with_clauses, no_nodes}
-
-or_false : (a : Bool) → a ≡ (a || false)
-or_false true = refl
-or_false false = refl
-
-or_assoc : (a b c : Bool) → ((a || b) || c) ≡ (a || (b || c))
-or_assoc true b c = refl
-or_assoc false b c = refl
 
 some_push : (p : ℕ → Bool) (ns : List ℕ) (n : ℕ) → some p (ns ++ n ∷ []) ≡ (some p ns || p n)
 some_push p [] n = sym (or_false (p n))

@@ -1,11 +1,11 @@
 -- The numbers of expressions change nothing of the names that they mention, and of their nodes.
 use Rattle.std.proofs.Common.{◌≡◌, ℕ, ◌+◌, Bool, List, [], ◌∷◌, refl, ap, ◌∙◌, arith}
 use Rattle.wy_core.specs.CoreTree.{Expr, NullExpr, BoolExpr, IntExpr, VarExpr, CallExpr, NegExpr, NotExpr, LenExpr, BinaryExpr, IsExpr, IndexExpr, FieldExpr, ListExpr, RepeatExpr, RecordExpr, QuantExpr, Exprs, NoExprs, MoreExprs, Fields, NoFields, MoreFields, Alias}
-use Rattle.wy_sem.specs.TypeTests.{has_clauses}
-use Rattle.wy_conditions.specs.Named.{nodes_of_ty, nodes_of_expr, nodes_of_exprs, nodes_of_values, nodes_of_clauses}
-use Rattle.wy_conditions.specs.Numbered.{numbered, numbered_all, numbered_fields, numbered_list, numbered_alias}
-use Rattle.wy_conditions.specs.Sizes.{exprs_in}
-use Rattle.wy_vc_reach.specs.declared.entries.Entry.{Entry}
+use Rattle.wy_vc_spec.specs.wy_sem.TypeTests.{has_clauses}
+use Rattle.wy_vc_spec.specs.Named.{nodes_of_ty, nodes_of_expr, nodes_of_exprs, nodes_of_values, nodes_of_clauses}
+use Rattle.wy_vc_spec.specs.Numbered.{numbered, numbered_all, numbered_fields, numbered_list, numbered_alias}
+use Rattle.wy_vc_spec.specs.Sizes.{exprs_in}
+use Rattle.wy_graph.specs.declared.reach.entries.Entry.{Entry}
 use Rattle.wy_vc_tables.specs.Mentions.{with_ty, with_expr, with_exprs, with_fields, with_clauses, no_nodes, entry_of}
 
 mutual

@@ -8,17 +8,17 @@ use Rattle.wy_core.specs.CoreSeen.{seen_alias, seen_core, seen_decl, seen_routin
 use Rattle.wy_core.specs.declared.declarations.Decl.{Decl}
 use Rattle.wy_core.specs.declared.declarations.Decl.TheVariants as decl
 use Rattle.wy_core.specs.declared.declarations.Core.{Core}
-use Rattle.wy_sem.specs.TypeTests.{alias_at}
-use Rattle.wy_conditions.specs.Named as named
-use Rattle.wy_conditions.specs.Numbered.{Node, numbered_decls, numbered_routine}
-use Rattle.wy_vc_names.specs.declared.declared.Declared.{Declared}
-use Rattle.wy_vc_names.specs.declared.program.Called.{Called}
-use Rattle.wy_vc_names.specs.declared.program.Program.{Program}
-use Rattle.wy_vc_names.specs.Described.{IsDescribed, IsRoutine, AreRoutines, alias_in, alias_of, first_of, numbered_at, routine_in, types_of, written_at}
-use Rattle.wy_vc_sizes.specs.Marks.{mark_at}
-use Rattle.wy_vc_reach.specs.declared.entries.Entry.{Entry}
-use Rattle.wy_vc_reach.specs.Reach as reach
-use Rattle.wy_vc_reach.proofs.SizeLemmas.{written_past}
+use Rattle.wy_vc_spec.specs.wy_sem.TypeTests.{alias_at}
+use Rattle.wy_vc_spec.specs.Named as named
+use Rattle.wy_vc_spec.specs.Numbered.{Node, numbered_decls, numbered_routine}
+use Rattle.wy_vc_tables.specs.declared.program_names.declared.Declared.{Declared}
+use Rattle.wy_vc_tables.specs.declared.program_names.program.Called.{Called}
+use Rattle.wy_vc_tables.specs.declared.program_names.program.Program.{Program}
+use Rattle.wy_vc_tables.specs.program_names.Described.{IsDescribed, IsRoutine, AreRoutines, alias_in, alias_of, first_of, numbered_at, routine_in, types_of, written_at}
+use Rattle.wy_vc_tables.specs.sizes.Marks.{mark_at}
+use Rattle.wy_graph.specs.declared.reach.entries.Entry.{Entry}
+use Rattle.wy_graph.specs.reach.Reach as reach
+use Rattle.wy_graph.proofs.reach_lemmas.SizeLemmas.{written_past}
 use Rattle.wy_vc_tables.specs.declared.tables.Place.{Place}
 use Rattle.wy_vc_tables.specs.Mentions.{entry_of}
 use Rattle.wy_vc_tables.specs.Tables.{behind, called_at, called_of, declared_of, entries_of, places_of}

@@ -2,9 +2,9 @@
 use Rattle.std.specs.Prelude.{ℕ, List, [], ◌∷◌, ◌++◌}
 use Rattle.wy_core.specs.Types.{Ty, NullTy, BoolTy, IntTy, AnyTy, VoidTy, RecordTy, ArrayTy, UnionTy, InterTy, NotTy, NamedTy, NormalTy, FieldTys, NoFieldTys, MoreFieldTys}
 use Rattle.wy_core.specs.CoreTree.{Expr, NullExpr, BoolExpr, IntExpr, VarExpr, CallExpr, NegExpr, NotExpr, LenExpr, BinaryExpr, IsExpr, IndexExpr, FieldExpr, ListExpr, RepeatExpr, RecordExpr, QuantExpr, Exprs, NoExprs, MoreExprs, Fields, NoFields, MoreFields, Alias}
-use Rattle.wy_sem.specs.TypeTests.{has_clauses}
-use Rattle.wy_conditions.specs.Named.{nodes_of_alias}
-use Rattle.wy_vc_reach.specs.declared.entries.Entry.{Entry}
+use Rattle.wy_vc_spec.specs.wy_sem.TypeTests.{has_clauses}
+use Rattle.wy_vc_spec.specs.Named.{nodes_of_alias}
+use Rattle.wy_graph.specs.declared.reach.entries.Entry.{Entry}
 
 abbrev mutual
   -- these names, and behind them those that a type mentions, in order

@@ -6,11 +6,11 @@ use Rattle.wy_core.specs.declared.declarations.Alias.{Alias}
 use Rattle.wy_core.specs.declared.declarations.Routine.{Routine}
 use Rattle.wy_core.specs.declared.declarations.Decl.{Decl}
 use Rattle.wy_core.specs.declared.declarations.Decl.TheVariants as decl
-use Rattle.wy_conditions.specs.Numbered.{exprs_in_decl}
-use Rattle.wy_conditions.specs.Sizes.{exprs_in_block, exprs_in_list}
-use Rattle.wy_vc_names.specs.declared.declared.Declared.{Declared}
-use Rattle.wy_vc_names.specs.declared.program.Called.{Called}
-use Rattle.wy_vc_reach.specs.declared.entries.Entry.{Entry}
+use Rattle.wy_vc_spec.specs.Numbered.{exprs_in_decl}
+use Rattle.wy_vc_spec.specs.Sizes.{exprs_in_block, exprs_in_list}
+use Rattle.wy_vc_tables.specs.declared.program_names.declared.Declared.{Declared}
+use Rattle.wy_vc_tables.specs.declared.program_names.program.Called.{Called}
+use Rattle.wy_graph.specs.declared.reach.entries.Entry.{Entry}
 use Rattle.wy_vc_tables.specs.Mentions.{entry_of}
 use Rattle.wy_vc_tables.specs.declared.tables.Place.{Place}
 use Rattle.wy_vc_tables.specs.declared.tables.Tables.{Tables}

@@ -1,13 +1,13 @@
 //! The tables put together.
 ghost use Rattle.std.specs.Prelude.{◌≡◌, slice_index_or, false, IfOk};
-ghost use Rattle.wy_vc_names.specs.Described.{IsDescribed};
+ghost use Rattle.wy_vc_tables.specs.program_names.Described.{IsDescribed};
 ghost use Rattle.wy_vc_tables.specs.Tables as spec;
 
+use crate::program_names::{Declared, Program};
 use crate::tables::{Place, Tables, tables_of};
 use std::alloc::{AllocError, Global};
 use wy_core::Core;
-use wy_vc_names::{Declared, Program};
-use wy_vc_reach::{constrained, written};
+use wy_graph::reach::{constrained, written};
 
 // Whether a name is marked; one without a mark isn't.
 fn is_marked(marks: &[bool], number: usize) -> bool
@@ -38,7 +38,7 @@ fn declared(alloc: Global, places: &[Place], marks: &[bool]) -> Result<Vec<Decla
 /// What the conditions of a program ask of its declarations: where each named type and each function or method stands, the numbers of
 /// their expressions in the walk of flow typing, which names are written out, and from which clauses are reached. `is_number` tells of
 /// each expression whether it is a number. Linear in the program, but for a sort of its named types and for what
-/// `wy_cycles::components` says.
+/// `wy_graph::cycles::components` says.
 pub fn program_of(alloc: Global, core: &Core, is_number: Vec<bool>) -> Result<Program, AllocError>
     ensures described { IfOk result (λ p. IsDescribed core.now p) }
     ensures numbers { IfOk result (λ p. p.is_number.items ≡ is_number.items) }

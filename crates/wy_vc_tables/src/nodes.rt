@@ -2,13 +2,13 @@
 ghost use Rattle.std.specs.Prelude.{◌≡◌, ◌+◌, map, IfOk};
 ghost use Rattle.wy_core.specs.CoreSeen.{field_tys_of, seen_alias, seen_expr, seen_exprs, seen_fields, seen_ty};
 ghost use Rattle.wy_core.specs.CoreTree.{exprs_of};
-ghost use Rattle.wy_conditions.specs.Named as spec;
+ghost use Rattle.wy_vc_spec.specs.Named as spec;
 ghost use Rattle.wy_vc_tables.specs.Mentions.{no_nodes};
 
+use crate::sizes::total;
 use std::alloc::AllocError;
 use wy_core::{Alias, Expr, ExprKind, Ty, TyKind};
 use wy_data::Name;
-use wy_vc_sizes::total;
 
 // One more.
 fn with_one(a: usize) -> Result<usize, AllocError>

@@ -1,17 +1,17 @@
 //! What is known of each declaration.
 ghost use Rattle.std.specs.Prelude.{◌≡◌, ◌+◌, ◌++◌, IfOk, OnOk};
 ghost use Rattle.wy_core.specs.CoreSeen.{seen_alias, seen_exprs};
-ghost use Rattle.wy_sem.specs.TypeTests as tests;
+ghost use Rattle.wy_vc_spec.specs.wy_sem.TypeTests as tests;
 ghost use Rattle.wy_vc_tables.specs.Mentions.{entry_of};
 ghost use Rattle.wy_vc_tables.specs.Tables as spec;
 
 use crate::names::names_in_alias;
 use crate::nodes::nodes_in_alias;
+use crate::program_names::Called;
+use crate::sizes::{exprs_in_block, exprs_in_list, total};
 use std::alloc::{AllocError, Global};
 use wy_core::{Alias, Decl, Expr, Routine};
-use wy_vc_names::Called;
-use wy_vc_reach::Entry;
-use wy_vc_sizes::{exprs_in_block, exprs_in_list, total};
+use wy_graph::reach::Entry;
 
 /// The number of a declaration, and of the first expression of its clauses in the walk of flow typing.
 #[derive(Clone, Copy)]

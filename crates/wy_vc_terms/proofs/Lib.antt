@@ -4,3 +4,5 @@ pub mod KindLemmas
 pub mod MadeLemmas
 -- loops over fields, expressions and clauses
 pub mod UnderwayLemmas
+-- passed on to the crates above
+pub use Rattle.wy_vc_operations.proofs as wy_vc_operations_proofs

@@ -1,5 +1,5 @@
 -- What is made of parts.
-use Rattle.std.proofs.Common.{◌≡◌, ◌<◌, ◌+◌, ◌-◌, ℕ, zero, suc, List, [], ◌∷◌, Bool, true, false, if◌then◌else◌, Option, Some, None, option_map, length, slice_get, map, refl, ◌∙◌, ap, subst, sym, arith}
+use Rattle.std.proofs.Common.{◌≡◌, ◌<◌, ◌+◌, ◌-◌, ℕ, zero, suc, List, [], ◌∷◌, Bool, true, if◌then◌else◌, Option, Some, None, option_map, length, slice_get, map, refl, ◌∙◌, ap, subst, sym, arith}
 use Rattle.wy_core.specs.Types.{Ty}
 use Rattle.wy_core.specs.CoreTree as tree
 use Rattle.wy_core.specs.CoreTree.{Expr}
@@ -10,18 +10,18 @@ use Rattle.wy_core.specs.declared.expressions.Expr as e
 use Rattle.wy_term.specs.Term.{Term}
 use Rattle.wy_term.specs.Nodes.{Plain, tree_at}
 use Rattle.wy_term.specs.Numbers.{IsAt}
-use Rattle.wy_sem.specs.Expressions.{node}
-use Rattle.wy_sem.specs.TypeTests.{alias_at, no_alias}
-use Rattle.wy_conditions.specs.Making.{int, int_name, val_name, in_type, null}
-use Rattle.wy_conditions.specs.Named.{is_written}
-use Rattle.wy_conditions.specs.Numbered.{Node, numbered, numbered_alias}
-use Rattle.wy_conditions.specs.Operations as op
-use Rattle.wy_conditions.specs.Sizes.{exprs_in}
-use Rattle.wy_conditions.specs.Values.{Setting, Naming, Valued, valued, holds, names_of, value, word_at, word_if, x_word, defined, named_to, named_in, variable, or_null, clause_formula, test_name, test_formula}
-use Rattle.wy_conditions.specs.Variables.{Vars, put, put_if, slot_at}
+use Rattle.wy_vc_operations.specs.wy_sem.Expressions.{node}
+use Rattle.wy_vc_operations.specs.wy_sem.TypeTests.{alias_at, no_alias}
+use Rattle.wy_vc_tables.specs.wy_vc_spec.Making.{int, int_name, val_name, in_type, null}
+use Rattle.wy_vc_tables.specs.wy_vc_spec.Named.{is_written}
+use Rattle.wy_vc_tables.specs.wy_vc_spec.Numbered.{Node, numbered, numbered_alias}
+use Rattle.wy_vc_tables.specs.wy_vc_spec.Operations as op
+use Rattle.wy_vc_tables.specs.wy_vc_spec.Sizes.{exprs_in}
+use Rattle.wy_vc_tables.specs.wy_vc_spec.Values.{Setting, Naming, Valued, valued, holds, names_of, value, word_at, defined, named_to, named_in, variable, or_null, clause_formula, test_name, test_formula}
+use Rattle.wy_vc_tables.specs.wy_vc_spec.Variables.{Vars, put, put_if, slot_at}
 use Rattle.wy_core.specs.declared.declarations.Core.{Core}
-use Rattle.wy_vc_names.specs.declared.program.Program.{Program}
-use Rattle.wy_vc_names.specs.Described.{IsDescribed, alias_of, first_of, numbered_at, setting, types_of}
+use Rattle.wy_vc_tables.specs.declared.program_names.program.Program.{Program}
+use Rattle.wy_vc_tables.specs.program_names.Described.{IsDescribed, alias_of, first_of, numbered_at, setting, types_of}
 use Rattle.wy_vc_operations.specs.Growing.{AreSlotsAt, IsSlotBelow, Kept, Makes}
 use Rattle.wy_vc_operations.proofs.GrowingLemmas.{kept_all, kept_on, onward}
 use Rattle.wy_vc_operations.proofs.SlotLemmas.{put_at, slot_below, slot_term}
@@ -122,15 +122,6 @@ quantified_made all {word} {spelled} {n} {a} {b} {c} {d} {e} {i} {j} {k} {p} {q}
 
 -- ---- named types
 
-pub named_zero : (s : Setting Node) (depth number : ℕ) (t : Term) (n : ℕ) {a b : List Plain} {r m : ℕ} → depth ≡ 0 → IsMadeAt a b r m (valued n (in_type number t)) → IsMadeAt a b r m (named_to s depth number t n)
-named_zero s zero number t n is made = made
-named_zero s (suc depth) number t n is made = absurd (omega arith)
-
-pub named_plain : (s : Setting Node) (depth number : ℕ) (t : Term) (n : ℕ) {a b : List Plain} {r m : ℕ} → is_written s.types number ≡ false → IsMadeAt a b r m (valued n (in_type number t)) → IsMadeAt a b r m (named_to s depth number t n)
-named_plain s zero number t n is made = made
-named_plain s (suc depth) number t n {a} {b} {r} {m} is made =
-    subst (λ (w : Bool). IsMadeAt a b r m (if w then defined s (named_to s depth) (alias_at s.types number) t n else valued n (in_type number t))) (sym is) made
-
 pub named_written : (s : Setting Node) (depth number : ℕ) (t : Term) (n : ℕ) {a b : List Plain} {r m : ℕ} → (depth ≡ 0 → ⊥) → is_written s.types number ≡ true → IsMadeAt a b r m (defined s (named_to s (depth - 1)) (alias_at s.types number) t n) → IsMadeAt a b r m (named_to s depth number t n)
 named_written s zero number t n above is made = absurd (above refl)
 named_written s (suc depth) number t n {a} {b} {r} {m} above is made =
@@ -209,10 +200,3 @@ pub test_made : (core : Core) (p : Program) (depth number : ℕ) → IsDescribed
 test_made core p depth number d is {ns} {k} {word} same at =
     subst (λ (w : List ℕ). IsAt ns k (defined (setting core p) (named_in (setting core p)) (alias_at (types_of core) number) (val_name w 0) 1).term) same
     (subst (λ (named : Naming). IsAt ns k (defined (setting core p) named (alias_at (types_of core) number) (val_name word 0) 1).term) (all_deep core p depth d is) at)
-
--- the word of a named type's variable
-pub unknown_word : (core : Core) (p : Program) (n : ℕ) → IsDescribed core p → None ≡ alias_of core (slice_get p.types.items n) → x_word ≡ type_word (types_of core) n
-unknown_word core p n d e = ap (λ (a : tree.Alias Node). word_if a.variables a.variable x_word) (no_name core p n d e)
-
-pub known_word : (core : Core) (p : Program) (n : ℕ) (alias : rust.Alias) → IsDescribed core p → Some alias ≡ alias_of core (slice_get p.types.items n) → word_if alias.variables alias.variable x_word ≡ type_word (types_of core) n
-known_word core p n alias d e = ap (λ (a : tree.Alias Node). word_if a.variables a.variable x_word) (found_name core p n (first_of (slice_get p.types.items n)) alias d e refl)

@@ -9,11 +9,11 @@ use Rattle.wy_core.specs.declared.expressions.Expr as e
 use Rattle.wy_term.specs.Term.{Term}
 use Rattle.wy_term.specs.Nodes.{Plain, tree_at}
 use Rattle.wy_term.specs.Numbers.{IsAt}
-use Rattle.wy_conditions.specs.Numbered.{Node, numbered, numbered_all, numbered_fields, numbered_list}
-use Rattle.wy_conditions.specs.Sizes.{exprs_in, exprs_in_all, exprs_in_fields}
-use Rattle.wy_conditions.specs.Making as made
-use Rattle.wy_conditions.specs.Values.{Setting, Naming, ValuedAll, valued, valued_all, holds, fields_hold, value, values, field_values, field_names, clause_formulas}
-use Rattle.wy_conditions.specs.Variables.{Vars}
+use Rattle.wy_vc_tables.specs.wy_vc_spec.Numbered.{Node, numbered, numbered_all, numbered_fields, numbered_list}
+use Rattle.wy_vc_tables.specs.wy_vc_spec.Sizes.{exprs_in, exprs_in_all, exprs_in_fields}
+use Rattle.wy_vc_tables.specs.wy_vc_spec.Making as made
+use Rattle.wy_vc_tables.specs.wy_vc_spec.Values.{Setting, Naming, ValuedAll, valued, valued_all, holds, fields_hold, value, values, field_values, field_names, clause_formulas}
+use Rattle.wy_vc_tables.specs.wy_vc_spec.Variables.{Vars}
 use Rattle.wy_vc_operations.specs.Growing.{Kept, Makes, AreAt, AreBelow}
 use Rattle.wy_vc_operations.proofs.GrowingLemmas.{kept_on, onward, all_kept, none_at, more_at, below_on, below_head, below_tail}
 use Rattle.wy_vc_terms.specs.Made.{IsMadeAt, AreMade, IsUnderway}

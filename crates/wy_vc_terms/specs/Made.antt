@@ -2,7 +2,7 @@
 use Rattle.std.specs.Prelude.{◌≡◌, ◌++◌, ℕ, List}
 use Rattle.wy_term.specs.Term.{Term}
 use Rattle.wy_term.specs.Nodes.{Plain}
-use Rattle.wy_conditions.specs.Values.{Valued, ValuedAll}
+use Rattle.wy_vc_tables.specs.wy_vc_spec.Values.{Valued, ValuedAll}
 use Rattle.wy_vc_operations.specs.Growing.{Makes, Kept, AreAt}
 use Rattle.wy_vc_terms.specs.declared.maker.Maker.{Maker}
 

@@ -6,11 +6,11 @@ use Rattle.wy_core.specs.CoreTree.{Alias}
 use Rattle.wy_core.specs.declared.types.Ty as rust
 use Rattle.wy_core.specs.declared.expressions.Expr as e
 use Rattle.wy_term.specs.Term.{Term, record_kind}
-use Rattle.wy_conditions.specs.Making.{all_of, of_kind}
-use Rattle.wy_conditions.specs.Numbered.{Node, numbered_list}
-use Rattle.wy_sem.specs.TypeTests.{alias_at}
-use Rattle.wy_conditions.specs.Values.{Setting, Naming, Valued, ValuedAll, valued, valued_all, names_of, fields_hold, clause_formulas, word_if, x_word}
-use Rattle.wy_conditions.specs.Variables.{Vars}
+use Rattle.wy_vc_tables.specs.wy_vc_spec.Making.{all_of, of_kind}
+use Rattle.wy_vc_tables.specs.wy_vc_spec.Numbered.{Node, numbered_list}
+use Rattle.wy_vc_operations.specs.wy_sem.TypeTests.{alias_at}
+use Rattle.wy_vc_tables.specs.wy_vc_spec.Values.{Setting, Naming, Valued, ValuedAll, valued, valued_all, names_of, fields_hold, clause_formulas, word_if, x_word}
+use Rattle.wy_vc_tables.specs.wy_vc_spec.Variables.{Vars}
 
 -- the fields with their types
 abbrev pub tys_of : List (List ℕ × rust.Ty) → ty.FieldTys

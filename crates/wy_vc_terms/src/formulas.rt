@@ -3,11 +3,11 @@ ghost use Rattle.std.specs.Prelude.{◌≡◌, ◌+◌, ◌<◌, ◌≤◌, List
 ghost use Rattle.wy_core.specs.CoreSeen.{seen_expr, seen_ty};
 ghost use Rattle.wy_term.specs.Term.{Term};
 ghost use Rattle.wy_term.specs.Numbers.{IsAt};
-ghost use Rattle.wy_conditions.specs.Numbered.{numbered};
-ghost use Rattle.wy_conditions.specs.Sizes.{exprs_in};
-ghost use Rattle.wy_conditions.specs.Values as spec;
-ghost use Rattle.wy_conditions.specs.Variables.{Vars};
-ghost use Rattle.wy_vc_names.specs.Described.{IsDescribed, setting, types_of};
+ghost use Rattle.wy_vc_tables.specs.wy_vc_spec.Numbered.{numbered};
+ghost use Rattle.wy_vc_tables.specs.wy_vc_spec.Sizes.{exprs_in};
+ghost use Rattle.wy_vc_tables.specs.wy_vc_spec.Values as spec;
+ghost use Rattle.wy_vc_tables.specs.wy_vc_spec.Variables.{Vars};
+ghost use Rattle.wy_vc_tables.specs.program_names.Described.{IsDescribed, setting, types_of};
 ghost use Rattle.wy_vc_operations.specs.Growing.{AreSlotsAt, Kept};
 ghost use Rattle.wy_vc_terms.specs.Made.{IsMade};
 ghost use Rattle.wy_vc_terms.specs.Wholes.{type_word};
@@ -20,8 +20,8 @@ use std::alloc::{AllocError, Global};
 use wy_core::{Core, Expr, Ty};
 use wy_data::Name;
 use wy_term::NoMemory;
-use wy_vc_names::Program;
 use wy_vc_operations::{formula, val_name};
+use wy_vc_tables::program_names::Program;
 
 /// The formula that a datum is in a type. A name is written out where it is to be; each quantifier takes a new name. Linear in the
 /// formula as it is written out.

@@ -2,11 +2,11 @@
 ghost use Rattle.std.specs.Prelude.{◌≡◌, ◌+◌, ◌<◌, ◌≤◌, length as count_of, map, IfOk, OnOk};
 ghost use Rattle.wy_core.specs.CoreSeen.{seen_exprs, seen_fields};
 ghost use Rattle.wy_core.specs.CoreTree.{exprs_of};
-ghost use Rattle.wy_conditions.specs.Numbered.{numbered_all, numbered_fields};
-ghost use Rattle.wy_conditions.specs.Sizes.{exprs_in_all, exprs_in_fields};
-ghost use Rattle.wy_conditions.specs.Values as spec;
-ghost use Rattle.wy_conditions.specs.Variables.{Vars};
-ghost use Rattle.wy_vc_names.specs.Described.{IsDescribed, setting};
+ghost use Rattle.wy_vc_tables.specs.wy_vc_spec.Numbered.{numbered_all, numbered_fields};
+ghost use Rattle.wy_vc_tables.specs.wy_vc_spec.Sizes.{exprs_in_all, exprs_in_fields};
+ghost use Rattle.wy_vc_tables.specs.wy_vc_spec.Values as spec;
+ghost use Rattle.wy_vc_tables.specs.wy_vc_spec.Variables.{Vars};
+ghost use Rattle.wy_vc_tables.specs.program_names.Described.{IsDescribed, setting};
 ghost use Rattle.wy_vc_operations.specs.Growing.{AreBelow, AreSlotsAt};
 ghost use Rattle.wy_vc_terms.specs.Made.{AreMade};
 
@@ -16,8 +16,8 @@ use std::alloc::Global;
 use wy_core::{Core, Expr};
 use wy_data::Name;
 use wy_term::{NoMemory, Terms};
-use wy_vc_names::Program;
-use wy_vc_sizes::exprs_in_all;
+use wy_vc_tables::program_names::Program;
+use wy_vc_tables::sizes::exprs_in_all;
 
 // The terms of expressions, in order.
 #[cycle(values)]

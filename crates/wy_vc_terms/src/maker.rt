@@ -3,7 +3,7 @@ ghost use Rattle.std.specs.Prelude.{◌≡◌, ◌+◌, [], suc, IfOk, OnOk};
 
 use std::alloc::Global;
 use wy_term::{NoMemory, Terms};
-use wy_vc_sizes::total;
+use wy_vc_tables::sizes::total;
 
 /// Terms, the number of names made so far by the pass, and the number that the next expression has in the walk of flow typing.
 #[derive(Drop)]

@@ -3,8 +3,8 @@ ghost use Rattle.std.specs.Prelude.{◌≡◌, ◌<◌, ◌≤◌, ◌∷◌, []
 ghost use Rattle.wy_core.specs.CoreSeen.{field_tys_of, seen_ty};
 ghost use Rattle.wy_term.specs.Term.{Term, array_kind, record_kind};
 ghost use Rattle.wy_term.specs.Numbers.{IsAt};
-ghost use Rattle.wy_conditions.specs.Making as made;
-ghost use Rattle.wy_conditions.specs.Values as spec;
+ghost use Rattle.wy_vc_tables.specs.wy_vc_spec.Making as made;
+ghost use Rattle.wy_vc_tables.specs.wy_vc_spec.Values as spec;
 ghost use Rattle.wy_vc_operations.specs.Growing.{Makes};
 
 use crate::words::{LENGTH_MAX, k_word};

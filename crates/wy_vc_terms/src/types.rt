@@ -9,12 +9,12 @@ ghost use Rattle.wy_core.specs.Types as ty;
 ghost use Rattle.wy_term.specs.Nodes.{Plain};
 ghost use Rattle.wy_term.specs.Term.{Term};
 ghost use Rattle.wy_term.specs.Numbers.{IsAt};
-ghost use Rattle.wy_sem.specs.TypeTests.{alias_at};
-ghost use Rattle.wy_conditions.specs.Making as made;
-ghost use Rattle.wy_conditions.specs.Numbered.{numbered_alias};
-ghost use Rattle.wy_conditions.specs.Values as spec;
-ghost use Rattle.wy_conditions.specs.Variables.{Vars, put_if};
-ghost use Rattle.wy_vc_names.specs.Described.{IsDescribed, setting, types_of};
+ghost use Rattle.wy_vc_operations.specs.wy_sem.TypeTests.{alias_at};
+ghost use Rattle.wy_vc_tables.specs.wy_vc_spec.Making as made;
+ghost use Rattle.wy_vc_tables.specs.wy_vc_spec.Numbered.{numbered_alias};
+ghost use Rattle.wy_vc_tables.specs.wy_vc_spec.Values as spec;
+ghost use Rattle.wy_vc_tables.specs.wy_vc_spec.Variables.{Vars, put_if};
+ghost use Rattle.wy_vc_tables.specs.program_names.Described.{IsDescribed, setting, types_of};
 ghost use Rattle.wy_vc_operations.specs.Growing.{AreSlotsAt};
 ghost use Rattle.wy_vc_terms.specs.Made.{IsMadeAt};
 ghost use Rattle.wy_vc_terms.specs.Wholes.{with_clauses};
@@ -26,10 +26,10 @@ use std::alloc::Global;
 use wy_core::{Alias, Core, Expr, Ty, TyKind};
 use wy_data::Name;
 use wy_term::{Kind, NoMemory, Terms};
-use wy_vc_names::Program;
 use wy_vc_operations::{
     both, conjunction, denied, either, falsehood, field, formula, in_type, kind, put,
 };
+use wy_vc_tables::program_names::Program;
 
 /// The formula that a datum is in a type. A name is written out where it is to be, at most `depth` of them one in another; each quantifier
 /// takes a new name.

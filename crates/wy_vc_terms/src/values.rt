@@ -4,13 +4,13 @@
 //! it may still go, as in `types`.
 ghost use Rattle.std.specs.Prelude.{◌≡◌, ◌+◌, ◌<◌, ◌≤◌, ◌&&◌, suc, List, length as count_of, IfOk, OnOk};
 ghost use Rattle.wy_core.specs.CoreSeen.{seen_expr};
-ghost use Rattle.wy_conditions.specs.Making as made;
-ghost use Rattle.wy_conditions.specs.Numbered as numbers;
-ghost use Rattle.wy_conditions.specs.Numbered.{numbered};
-ghost use Rattle.wy_conditions.specs.Sizes.{exprs_in, exprs_in_all};
-ghost use Rattle.wy_conditions.specs.Values as spec;
-ghost use Rattle.wy_conditions.specs.Variables.{Vars, put as spec_put};
-ghost use Rattle.wy_vc_names.specs.Described.{IsDescribed, is_number_in, setting};
+ghost use Rattle.wy_vc_tables.specs.wy_vc_spec.Making as made;
+ghost use Rattle.wy_vc_tables.specs.wy_vc_spec.Numbered as numbers;
+ghost use Rattle.wy_vc_tables.specs.wy_vc_spec.Numbered.{numbered};
+ghost use Rattle.wy_vc_tables.specs.wy_vc_spec.Sizes.{exprs_in, exprs_in_all};
+ghost use Rattle.wy_vc_tables.specs.wy_vc_spec.Values as spec;
+ghost use Rattle.wy_vc_tables.specs.wy_vc_spec.Variables.{Vars, put as spec_put};
+ghost use Rattle.wy_vc_tables.specs.program_names.Described.{IsDescribed, is_number_in, setting};
 ghost use Rattle.wy_vc_operations.specs.Growing.{AreSlotsAt};
 ghost use Rattle.wy_vc_terms.specs.Made.{IsMadeAt};
 
@@ -23,12 +23,12 @@ use std::alloc::Global;
 use wy_core::{Core, Expr, ExprKind};
 use wy_data::Name;
 use wy_term::{NoMemory, Terms};
-use wy_vc_names::Program;
 use wy_vc_operations::{
     field, index, int, length, list, negated, null, number_name, operated, put, put_back,
     quantified, record, repeated, slot_at, truth, value_of, whole, with_denial,
 };
-use wy_vc_sizes::{exprs_in_all, total};
+use wy_vc_tables::program_names::Program;
+use wy_vc_tables::sizes::{exprs_in_all, total};
 
 /// The term of what an expression of a contract evaluates to, where variables stand for these terms. Each quantifier takes a new name. A
 /// contract calls nothing.

@@ -2,17 +2,17 @@
 ghost use Rattle.std.specs.Prelude.{◌≡◌, ◌<◌, ◌≤◌, suc, ℕ, List, length as count_of, IfOk, OnOk};
 ghost use Rattle.wy_term.specs.Term.{Term};
 ghost use Rattle.wy_term.specs.Numbers.{IsAt};
-ghost use Rattle.wy_conditions.specs.Numbered as numbers;
-ghost use Rattle.wy_conditions.specs.Values as spec;
-ghost use Rattle.wy_conditions.specs.Variables.{Vars};
-ghost use Rattle.wy_vc_names.specs.Described.{is_number_in};
+ghost use Rattle.wy_vc_tables.specs.wy_vc_spec.Numbered as numbers;
+ghost use Rattle.wy_vc_tables.specs.wy_vc_spec.Values as spec;
+ghost use Rattle.wy_vc_tables.specs.wy_vc_spec.Variables.{Vars};
+ghost use Rattle.wy_vc_tables.specs.program_names.Described.{is_number_in};
 ghost use Rattle.wy_vc_operations.specs.Growing.{AreSlotsAt, Makes};
 
 use std::alloc::{AllocError, Global};
 use wy_data::Name;
 use wy_term::{NoMemory, Terms};
-use wy_vc_names::Program;
 use wy_vc_operations::{null, slot_at};
+use wy_vc_tables::program_names::Program;
 
 /// The most elements that an array has.
 pub const LENGTH_MAX: i128 = 9223372036854775807;

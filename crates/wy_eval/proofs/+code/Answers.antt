@@ -15,14 +15,14 @@ use Rattle.wy_sem.specs.Expressions.{Store, clauses, eval, slot}
 use Rattle.wy_sem.specs.TypeTests.{clause_setting}
 use Rattle.wy_sem.specs.Operations as operations
 use Rattle.wy_sem.specs.Operations.{needed}
-use Rattle.wy_eval_expressions.specs.Operands.{parts_of, seen_option}
-use Rattle.wy_eval_expressions.specs.Outcomes.{meter_of, stopped}
-use Rattle.wy_eval_expressions.specs.Scopes.{scope, store_of}
-use Rattle.wy_eval_expressions.specs.Settings.{data_in, here, turns_of}
-use Rattle.wy_eval_expressions.proofs.KindLemmas.{null_of, bool_of, int_of, var_of, call_of, neg_of, not_of, len_of, binary_of, is_of, index_of, field_of, list_of, repeat_of, record_of, quant_of}
-use Rattle.wy_eval_expressions.proofs.StepLemmas.{done, gives_as, spent, refused, then_gives, then_is, then_stops, after_spend, as_kind, eval_stops, array_is, record_is, no_memory}
-use Rattle.wy_eval_expressions.proofs.TurnLemmas.{values_begin, values_turn, values_refused, values_end, fields_begin, fields_turn, fields_refused, fields_end, turns_turn, turns_early, turns_refused, turns_fault, TurnsLeft}
-use Rattle.wy_eval_expressions.proofs.VisitLemmas.{each_from, turn_is, turn_refused, early_said, early_silent}
+use Rattle.wy_eval_exprs.specs.Operands.{parts_of, seen_option}
+use Rattle.wy_eval_exprs.specs.Outcomes.{meter_of, stopped}
+use Rattle.wy_eval_exprs.specs.Scopes.{scope, store_of}
+use Rattle.wy_eval_exprs.specs.Settings.{data_in, here, turns_of}
+use Rattle.wy_eval_exprs.proofs.KindLemmas.{null_of, bool_of, int_of, var_of, call_of, neg_of, not_of, len_of, binary_of, is_of, index_of, field_of, list_of, repeat_of, record_of, quant_of}
+use Rattle.wy_eval_exprs.proofs.StepLemmas.{done, gives_as, spent, refused, then_gives, then_is, then_stops, after_spend, as_kind, eval_stops, array_is, record_is, no_memory}
+use Rattle.wy_eval_exprs.proofs.TurnLemmas.{values_begin, values_turn, values_refused, values_end, fields_begin, fields_turn, fields_refused, fields_end, turns_turn, turns_early, turns_refused, turns_fault, TurnsLeft}
+use Rattle.wy_eval_exprs.proofs.VisitLemmas.{each_from, turn_is, turn_refused, early_said, early_silent}
 use Rattle.wy_eval.specs.Settings.{built_in_call, code, slots_in}
 use Rattle.wy_eval.proofs.StatementLemmas.{declare_of, assign_of, call_of as call_stmt_of, return_of, assert_of, break_of, continue_of, skip_of, fail_of, if_of, while_of, as_stmt, exec_stops, block_turn, block_ends, block_stops, block_end, needed_gives}
 use Rattle.wy_sem.specs.Statements as statements

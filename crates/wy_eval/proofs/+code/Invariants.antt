@@ -3,10 +3,10 @@ use borrow.Author.Gap.{gap}
 use Rattle.wy_core.specs.CoreSeen.{seen_alias, seen_block, seen_core, seen_expr, seen_exprs}
 use Rattle.wy_value.specs.Seen.{seen}
 use Rattle.wy_sem.specs.Statements.{exec_all}
-use Rattle.wy_eval_expressions.specs.Outcomes.{meter_of}
-use Rattle.wy_eval_expressions.specs.Scopes.{scope, store_of}
-use Rattle.wy_eval_expressions.specs.Settings.{turns_of}
-use Rattle.wy_eval_expressions.proofs.TurnLemmas.{ValuesLeft, FieldsLeft, TurnsLeft}
+use Rattle.wy_eval_exprs.specs.Outcomes.{meter_of}
+use Rattle.wy_eval_exprs.specs.Scopes.{scope, store_of}
+use Rattle.wy_eval_exprs.specs.Settings.{turns_of}
+use Rattle.wy_eval_exprs.proofs.TurnLemmas.{ValuesLeft, FieldsLeft, TurnsLeft}
 use Rattle.wy_eval.specs.Exits.{frame}
 use Rattle.wy_eval.specs.Settings.{code}
 use Rattle.wy_eval.proofs.PathLemmas.{PathLeft}

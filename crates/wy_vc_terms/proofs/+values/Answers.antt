@@ -6,14 +6,14 @@ use Rattle.std.proofs.lemmas.List.Elements.{All-nil, All-cons}
 use Rattle.wy_core.specs.CoreSeen.{seen_ty, seen_expr, seen_exprs, seen_fields}
 use Rattle.wy_core.specs.CoreTree as tree
 use Rattle.wy_core.specs.CoreTree.{exprs_of}
-use Rattle.wy_sem.specs.Expressions.{node}
-use Rattle.wy_conditions.specs.Making.{get, int, int_name, number_of}
-use Rattle.wy_conditions.specs.Numbered.{numbered, numbered_all, numbered_fields, numbered_list}
-use Rattle.wy_conditions.specs.Operations as op
-use Rattle.wy_conditions.specs.Sizes.{exprs_in, exprs_in_all, exprs_in_fields}
-use Rattle.wy_conditions.specs.Values.{k_word, valued, named_to, fields_hold, value, values, field_values, clause_formulas}
-use Rattle.wy_conditions.specs.Variables.{slot_at}
-use Rattle.wy_vc_names.specs.Described.{setting}
+use Rattle.wy_vc_operations.specs.wy_sem.Expressions.{node}
+use Rattle.wy_vc_tables.specs.wy_vc_spec.Making.{get, int, int_name, number_of}
+use Rattle.wy_vc_tables.specs.wy_vc_spec.Numbered.{numbered, numbered_all, numbered_fields, numbered_list}
+use Rattle.wy_vc_tables.specs.wy_vc_spec.Operations as op
+use Rattle.wy_vc_tables.specs.wy_vc_spec.Sizes.{exprs_in, exprs_in_all, exprs_in_fields}
+use Rattle.wy_vc_tables.specs.wy_vc_spec.Values.{k_word, valued, named_to, fields_hold, value, values, field_values, clause_formulas}
+use Rattle.wy_vc_tables.specs.wy_vc_spec.Variables.{slot_at}
+use Rattle.wy_vc_tables.specs.program_names.Described.{setting}
 use Rattle.wy_vc_operations.specs.Growing.{AreBelow, AreSlotsAt, Makes}
 use Rattle.wy_vc_operations.proofs.GrowingLemmas.{here_kept, kept_all, kept_on, onward}
 use Rattle.wy_vc_operations.proofs.SlotLemmas.{put_at, slots_kept}

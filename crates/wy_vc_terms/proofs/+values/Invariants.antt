@@ -3,11 +3,11 @@ use Rattle.wy_core.specs.CoreSeen.{seen_exprs, seen_fields}
 use Rattle.wy_core.specs.CoreTree.{exprs_of}
 use Rattle.wy_term.specs.Term.{Term}
 use Rattle.wy_term.specs.Numbers.{IsAt}
-use Rattle.wy_conditions.specs.Numbered.{numbered_all, numbered_fields, numbered_list}
-use Rattle.wy_conditions.specs.Sizes.{exprs_in_all, exprs_in_fields}
-use Rattle.wy_conditions.specs.Values.{named_to, fields_hold, values, field_values, clause_formulas}
-use Rattle.wy_conditions.specs.Variables.{Vars}
-use Rattle.wy_vc_names.specs.Described.{IsDescribed, setting}
+use Rattle.wy_vc_tables.specs.wy_vc_spec.Numbered.{numbered_all, numbered_fields, numbered_list}
+use Rattle.wy_vc_tables.specs.wy_vc_spec.Sizes.{exprs_in_all, exprs_in_fields}
+use Rattle.wy_vc_tables.specs.wy_vc_spec.Values.{named_to, fields_hold, values, field_values, clause_formulas}
+use Rattle.wy_vc_tables.specs.wy_vc_spec.Variables.{Vars}
+use Rattle.wy_vc_tables.specs.program_names.Described.{IsDescribed, setting}
 use Rattle.wy_vc_operations.specs.Growing.{AreBelow, AreSlotsAt}
 use Rattle.wy_vc_terms.specs.Made.{IsUnderway}
 use Rattle.wy_vc_terms.specs.Wholes.{tys_of, record_parts, clause_parts}

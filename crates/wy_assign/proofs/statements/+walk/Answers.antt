@@ -1,6 +1,6 @@
 use Rattle.std.proofs.Common.{◌≡◌, IfOk, subst, refl}
 use Rattle.wy_assign.specs.declared.flow.Walk.{Walk}
-use Rattle.wy_assign.proofs.WalkLemmas.{if_walk, while_walk}
+use Rattle.wy_assign.proofs.WalkLemmas.{if_walk}
 use Rattle.wy_assign.proofs.statements.+walk.Goals as goal
 
 pub walk_stmt-returns-in_ok-second-in-If : goal.walk_stmt-returns-in_ok-second-in-If

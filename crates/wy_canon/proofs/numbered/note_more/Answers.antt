@@ -1,7 +1,8 @@
 use Rattle.std.proofs.Common.{ℕ, ◌++◌, ◌∷◌, [], subst}
 use Rattle.wy_canon.specs.Numbered.{IsNoted, AreNoted}
-use Rattle.wy_canon.proofs.NumberedLemmas.{noted_more, on_ok}
+use Rattle.wy_canon.proofs.NumberedLemmas.{noted_more}
 use Rattle.wy_canon.proofs.numbered.note_more.Goals as goal
+use Rattle.wy_lemmas.proofs.Options.{on_ok}
 
 pub returns-in-Ok-clause-noted : goal.returns-in-Ok-clause-noted
 returns-in-Ok-clause-noted c =

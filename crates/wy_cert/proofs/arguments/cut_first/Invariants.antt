@@ -1,5 +1,5 @@
 use Rattle.std.proofs.Common.{ℕ, ◌<◌, drop, codes}
-use Rattle.wy_scan.specs.Front.{NotBehind}
+use Rattle.wy_data.specs.scan.Front.{NotBehind}
 use Rattle.wy_cert.proofs.arguments.cut_first.Given as goal
 
 abbrev pub invariant-loop-end : goal.invariant-loop-end

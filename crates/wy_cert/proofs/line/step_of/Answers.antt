@@ -1,5 +1,5 @@
 use Rattle.std.proofs.Common.{rules}
-use Rattle.wy_scan.specs.Front.{IsBehind}
+use Rattle.wy_data.specs.scan.Front.{IsBehind}
 use Rattle.wy_term.specs.Nodes.{tree_at}
 use Rattle.wy_cert.specs.Steps.{written}
 use Rattle.wy_cert.specs.Lines.{word_of, IsBody, IsStep}

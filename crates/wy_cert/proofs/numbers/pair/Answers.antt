@@ -1,5 +1,5 @@
 use Rattle.std.proofs.Common.{rules, codes}
-use Rattle.wy_scan.specs.Front.{IsBehind, NotBehind}
+use Rattle.wy_data.specs.scan.Front.{IsBehind, NotBehind}
 use Rattle.wy_cert.specs.Numbers.{IsMultiplierAt, NoPlace}
 use Rattle.wy_cert.proofs.NumberLemmas.{pair_no_gap, pair_no_place}
 use Rattle.wy_cert.proofs.numbers.pair.Goals as goal

@@ -1,5 +1,5 @@
 use Rattle.std.proofs.Common.{rules, codes}
-use Rattle.wy_scan.specs.Front.{IsBehind}
+use Rattle.wy_data.specs.scan.Front.{IsBehind}
 use Rattle.wy_cert.proofs.FileLemmas.{condition_answer}
 use Rattle.wy_cert.proofs.read.condition.Goals as goal
 

@@ -1,5 +1,5 @@
 use Rattle.std.proofs.Common.{rules, [], true, false, codes}
-use Rattle.wy_scan.specs.Front.{IsBehind}
+use Rattle.wy_data.specs.scan.Front.{IsBehind}
 use Rattle.wy_cert.specs.Steps.{certificates_of}
 use Rattle.wy_cert.specs.File.{ReadsCerts, ReadsFile}
 use Rattle.wy_cert.proofs.OneLemmas.{answers_same}

@@ -1,5 +1,5 @@
 use Rattle.std.proofs.Common.{take}
-use Rattle.wy_scan.specs.Front.{AllPass}
+use Rattle.wy_data.specs.scan.Front.{AllPass}
 use Rattle.wy_cert.specs.File.{is_inside}
 use Rattle.wy_cert.proofs.tree.first_line.Given as goal
 

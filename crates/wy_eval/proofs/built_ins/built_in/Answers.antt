@@ -3,9 +3,9 @@ use Rattle.wy_core.specs.CoreSeen.{seen_core, seen_decl}
 use Rattle.wy_core.specs.CoreTree.{routines_of}
 use Rattle.wy_value.specs.Seen.{seen}
 use Rattle.wy_sem.specs.Evaluation.{callee, print_call, print_int_call}
-use Rattle.wy_eval_expressions.specs.Operands.{seen_option}
-use Rattle.wy_eval_expressions.specs.Outcomes.{meter_of}
-use Rattle.wy_eval_expressions.proofs.StepLemmas.{gives_as}
+use Rattle.wy_eval_exprs.specs.Operands.{seen_option}
+use Rattle.wy_eval_exprs.specs.Outcomes.{meter_of}
+use Rattle.wy_eval_exprs.proofs.StepLemmas.{gives_as}
 use Rattle.wy_eval.specs.Settings.{built_in_call}
 use Rattle.wy_eval.proofs.CalleeLemmas.{callee_behind, undeclared}
 use Rattle.wy_eval.proofs.built_ins.built_in.Goals as goal

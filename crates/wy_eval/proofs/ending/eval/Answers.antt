@@ -5,10 +5,10 @@ use Rattle.wy_value.specs.Seen.{seen}
 use Rattle.wy_sem.specs.Evaluation.{Declared, callee, place_of, run as spec_run}
 use Rattle.wy_core.specs.CoreSeen.{seen_routine}
 use Rattle.wy_sem.specs.Meter.{Done, Fault, More}
-use Rattle.wy_eval_expressions.specs.declared.stop.Stop.TheVariants as stop
-use Rattle.wy_eval_expressions.specs.Operands.{seen_option}
-use Rattle.wy_eval_expressions.specs.Outcomes.{Gives, meter_of, stopped}
-use Rattle.wy_eval_expressions.specs.Settings.{here}
+use Rattle.wy_eval_exprs.specs.declared.stop.Stop.TheVariants as stop
+use Rattle.wy_eval_exprs.specs.Operands.{seen_option}
+use Rattle.wy_eval_exprs.specs.Outcomes.{Gives, meter_of, stopped}
+use Rattle.wy_eval_exprs.specs.Settings.{here}
 use Rattle.wy_eval.proofs.EndingLemmas.{ends_exactly, evaluated, placed, placed_behind, spent_exactly, starts, with_output}
 use Rattle.wy_eval.proofs.ending.eval.Goals as goal
 use Rattle.wy_eval.proofs.ending.eval.Goals.{in-Some, in-None}

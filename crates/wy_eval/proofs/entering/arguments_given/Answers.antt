@@ -2,8 +2,8 @@ use Rattle.std.proofs.Common.{◌≡◌, ◌+◌, ◌<◌, ◌≤◌, length, ge
 use Rattle.wy_core.specs.CoreSeen.{seen_alias, seen_param}
 use Rattle.wy_value.specs.Seen.{seen}
 use Rattle.wy_sem.specs.Evaluation.{arguments, owed_member}
-use Rattle.wy_eval_expressions.specs.Outcomes.{meter_of}
-use Rattle.wy_eval_expressions.specs.Settings.{here}
+use Rattle.wy_eval_exprs.specs.Outcomes.{meter_of}
+use Rattle.wy_eval_exprs.specs.Settings.{here}
 use Rattle.wy_eval.proofs.EntryLemmas.{arguments_end, arguments_short, arguments_stop, arguments_turn, goes_refused}
 use Rattle.wy_eval.proofs.entering.arguments_given.Goals as goal
 

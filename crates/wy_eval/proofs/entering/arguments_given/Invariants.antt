@@ -1,8 +1,8 @@
 use Rattle.std.proofs.Common.{◌≡◌, Some, map}
 use Rattle.wy_core.specs.CoreSeen.{seen_alias}
 use Rattle.wy_sem.specs.Evaluation.{owed_member}
-use Rattle.wy_eval_expressions.specs.Outcomes.{meter_of}
-use Rattle.wy_eval_expressions.specs.Settings.{here}
+use Rattle.wy_eval_exprs.specs.Outcomes.{meter_of}
+use Rattle.wy_eval_exprs.specs.Settings.{here}
 use Rattle.wy_eval.proofs.EntryLemmas.{ArgumentsLeft}
 use Rattle.wy_eval.proofs.entering.arguments_given.Given as goal
 

@@ -5,9 +5,9 @@ use Rattle.wy_value.specs.Seen.{seen}
 use Rattle.wy_term.specs.declared.cond.CondKind.TheVariants.{Requires}
 use Rattle.wy_sem.specs.Meter.{Run}
 use Rattle.wy_sem.specs.TypeTests.{clause_setting}
-use Rattle.wy_eval_expressions.specs.Outcomes.{meter_of}
-use Rattle.wy_eval_expressions.specs.Scopes.{store_of}
-use Rattle.wy_eval_expressions.specs.Settings.{here}
+use Rattle.wy_eval_exprs.specs.Outcomes.{meter_of}
+use Rattle.wy_eval_exprs.specs.Scopes.{store_of}
+use Rattle.wy_eval_exprs.specs.Settings.{here}
 use Rattle.wy_eval.specs.Entries.{entering}
 use Rattle.wy_eval.proofs.EntryLemmas.{goes_refused}
 use Rattle.wy_eval.proofs.FollowLemmas.{clauses_stops, clauses_then}

@@ -4,9 +4,9 @@ use Rattle.wy_value.specs.Seen.{seen}
 use Rattle.wy_sem.specs.Evaluation.{owed_member}
 use Rattle.wy_sem.specs.Meter.{check}
 use Rattle.wy_term.specs.declared.cond.CondKind.TheVariants.{Member}
-use Rattle.wy_eval_expressions.specs.Outcomes.{itself, meter_of}
-use Rattle.wy_eval_expressions.specs.Settings.{here}
-use Rattle.wy_eval_expressions.proofs.StepLemmas.{done, then_gives, then_stops}
+use Rattle.wy_eval_exprs.specs.Outcomes.{itself, meter_of}
+use Rattle.wy_eval_exprs.specs.Settings.{here}
+use Rattle.wy_eval_exprs.proofs.StepLemmas.{done, then_gives, then_stops}
 use Rattle.wy_eval.proofs.giving.given.Goals as goal
 
 pub returns-in_err-within : goal.returns-in_err-within

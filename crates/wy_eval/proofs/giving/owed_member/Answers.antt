@@ -3,9 +3,9 @@ use Rattle.wy_core.specs.CoreSeen.{seen_alias, seen_ty}
 use Rattle.wy_value.specs.Seen.{seen}
 use Rattle.wy_sem.specs.Evaluation.{owed_member}
 use Rattle.wy_sem.specs.TypeTests as tests
-use Rattle.wy_eval_expressions.specs.Outcomes.{itself, meter_of}
-use Rattle.wy_eval_expressions.specs.Settings.{here}
-use Rattle.wy_eval_expressions.proofs.StepLemmas.{gives_as}
+use Rattle.wy_eval_exprs.specs.Outcomes.{itself, meter_of}
+use Rattle.wy_eval_exprs.specs.Settings.{here}
+use Rattle.wy_eval_exprs.proofs.StepLemmas.{gives_as}
 use Rattle.wy_eval.proofs.GivenLemmas.{not_owed, owed, owed_as_marked}
 use Rattle.wy_eval.proofs.giving.owed_member.Goals as goal
 

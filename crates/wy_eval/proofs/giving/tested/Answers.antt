@@ -2,9 +2,9 @@ use Rattle.std.proofs.Common.{◌+◌, Some, length, map, refl, suc, true}
 use Rattle.wy_core.specs.CoreSeen.{seen_alias, seen_ty}
 use Rattle.wy_value.specs.Seen.{seen}
 use Rattle.wy_sem.specs.TypeTests.{tests}
-use Rattle.wy_eval_expressions.specs.Outcomes.{itself, meter_of}
-use Rattle.wy_eval_expressions.specs.Settings.{here}
-use Rattle.wy_eval_expressions.proofs.StepLemmas.{gives_as}
+use Rattle.wy_eval_exprs.specs.Outcomes.{itself, meter_of}
+use Rattle.wy_eval_exprs.specs.Settings.{here}
+use Rattle.wy_eval_exprs.proofs.StepLemmas.{gives_as}
 use Rattle.wy_eval.proofs.GivenLemmas.{deep_as}
 use Rattle.wy_eval.proofs.giving.tested.Goals as goal
 

@@ -1,5 +1,5 @@
 use Rattle.std.proofs.Common.{◌≡◌, ◌++◌, drop}
-use Rattle.wy_eval_expressions.specs.Scopes.{store_of}
+use Rattle.wy_eval_exprs.specs.Scopes.{store_of}
 use Rattle.wy_eval.proofs.leaving.copied.Given as goal
 
 abbrev pub invariant-loop-held : goal.invariant-loop-held

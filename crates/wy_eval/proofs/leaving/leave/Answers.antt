@@ -1,10 +1,10 @@
 use Rattle.std.proofs.Common.{map, ap, ◌∙◌}
 use Rattle.wy_core.specs.CoreSeen.{seen_alias}
 use Rattle.wy_value.specs.Seen.{seen}
-use Rattle.wy_eval_expressions.specs.Operands.{seen_option}
-use Rattle.wy_eval_expressions.specs.Outcomes.{meter_of}
-use Rattle.wy_eval_expressions.specs.Scopes.{store_of}
-use Rattle.wy_eval_expressions.proofs.StepLemmas.{refused}
+use Rattle.wy_eval_exprs.specs.Operands.{seen_option}
+use Rattle.wy_eval_exprs.specs.Outcomes.{meter_of}
+use Rattle.wy_eval_exprs.specs.Scopes.{store_of}
+use Rattle.wy_eval_exprs.proofs.StepLemmas.{refused}
 use Rattle.wy_eval.specs.Exits.{gave}
 use Rattle.wy_eval.proofs.LeaveLemmas.{leave_done, leave_none, leave_none_stops, leave_refused, leave_stops, left}
 use Rattle.wy_eval.proofs.leaving.leave.Goals as goal

@@ -1,8 +1,8 @@
 use Rattle.std.proofs.Common.{Some}
 use Rattle.wy_sem.specs.Evaluation.{text_of}
-use Rattle.wy_eval_expressions.specs.Operands.{items_of}
-use Rattle.wy_eval_expressions.specs.Outcomes.{meter_of}
-use Rattle.wy_eval_expressions.proofs.StepLemmas.{refused}
+use Rattle.wy_eval_exprs.specs.Operands.{items_of}
+use Rattle.wy_eval_exprs.specs.Outcomes.{meter_of}
+use Rattle.wy_eval_exprs.proofs.StepLemmas.{refused}
 use Rattle.wy_eval.proofs.TextLemmas.{text_wrong}
 use Rattle.wy_eval.proofs.printing.text_of.Goals as goal
 

@@ -1,5 +1,5 @@
 use Rattle.std.proofs.Common.{drop}
-use Rattle.wy_eval_expressions.specs.Outcomes.{meter_of}
+use Rattle.wy_eval_exprs.specs.Outcomes.{meter_of}
 use Rattle.wy_eval.proofs.TextLemmas.{TextLeft}
 use Rattle.wy_eval.proofs.printing.text_of.Given as goal
 

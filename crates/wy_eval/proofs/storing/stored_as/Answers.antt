@@ -6,10 +6,10 @@ use Rattle.wy_sem.specs.Expressions as spec
 use Rattle.wy_sem.specs.Meter.{Meter, Done}
 use Rattle.wy_sem.specs.Statements as statements
 use Rattle.wy_sem.specs.Statements.{Went, given}
-use Rattle.wy_eval_expressions.specs.Outcomes.{meter_of}
-use Rattle.wy_eval_expressions.specs.Scopes.{store_of}
-use Rattle.wy_eval_expressions.specs.Settings.{here}
-use Rattle.wy_eval_expressions.proofs.StepLemmas.{gives_as}
+use Rattle.wy_eval_exprs.specs.Outcomes.{meter_of}
+use Rattle.wy_eval_exprs.specs.Scopes.{store_of}
+use Rattle.wy_eval_exprs.specs.Settings.{here}
+use Rattle.wy_eval_exprs.proofs.StepLemmas.{gives_as}
 use Rattle.wy_eval.specs.Exits.{seen_exit}
 use Rattle.wy_eval.proofs.storing.stored_as.Goals as goal
 

@@ -4,9 +4,9 @@ use Rattle.wy_term.specs.declared.cond.CondKind.TheVariants.{Keep}
 use Rattle.wy_sem.specs.Expressions.{clauses}
 use Rattle.wy_sem.specs.Statements.{go_round}
 use Rattle.wy_sem.specs.TypeTests.{clause_setting}
-use Rattle.wy_eval_expressions.specs.Outcomes.{meter_of}
-use Rattle.wy_eval_expressions.specs.Scopes.{store_of}
-use Rattle.wy_eval_expressions.specs.Settings.{here}
+use Rattle.wy_eval_exprs.specs.Outcomes.{meter_of}
+use Rattle.wy_eval_exprs.specs.Scopes.{store_of}
+use Rattle.wy_eval_exprs.specs.Settings.{here}
 use Rattle.wy_eval.specs.Exits.{seen_exit}
 use Rattle.wy_eval.proofs.FollowLemmas.{clauses_stops, clauses_then}
 use Rattle.wy_eval.specs.Settings.{kept}

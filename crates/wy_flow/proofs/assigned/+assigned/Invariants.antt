@@ -1,6 +1,6 @@
 use Rattle.std.proofs.Common.{◌≡◌, drop}
 use Rattle.wy_core.specs.CoreSeen.{seen_block}
-use Rattle.wy_typing.specs.Assigned as spec
+use Rattle.wy_flow_spec.specs.typing.Assigned as spec
 use Rattle.wy_flow.proofs.assigned.+assigned.Given as goal
 
 abbrev pub invariant-assigned_in-loop-stmt : goal.invariant-assigned_in-loop-stmt

@@ -1,5 +1,5 @@
 use Rattle.std.proofs.Common.{◌≡◌, drop}
-use Rattle.wy_typing.specs.Narrowing as rule
+use Rattle.wy_flow_spec.specs.typing.Narrowing as rule
 use Rattle.wy_flow.proofs.assigned.is_among.Given as goal
 
 abbrev pub invariant-loop-other : goal.invariant-loop-other

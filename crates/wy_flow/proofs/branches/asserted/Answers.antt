@@ -1,11 +1,11 @@
 use Rattle.std.proofs.Common.{ap, ◌∙◌}
-use Rattle.wy_environment.specs.Seen.{seen_changes, seen_environment}
-use Rattle.wy_environment.specs.Variables as variables
+use Rattle.wy_flow_spec.specs.environment.Seen.{seen_changes, seen_environment}
+use Rattle.wy_flow_spec.specs.environment.Variables as variables
 use Rattle.wy_flow.specs.States.{seen_state}
-use Rattle.wy_flow_expressions.specs.Seen.{seen_flow, seen_found}
-use Rattle.wy_typing.specs.Outcomes.{Gives, gave}
-use Rattle.wy_typing.specs.States as states
-use Rattle.wy_checks.proofs.StepLemmas.{first_refused}
+use Rattle.wy_flow_exprs.specs.Seen.{seen_flow, seen_found}
+use Rattle.wy_flow_spec.specs.typing.Outcomes.{Gives, gave}
+use Rattle.wy_flow_spec.specs.typing.States as states
+use Rattle.wy_flow_exprs.proofs.checks_lemmas.StepLemmas.{first_refused}
 use Rattle.wy_flow.proofs.branches.asserted.Goals as goal
 
 pub returns-in_err-found-clause-value : goal.returns-in_err-found-clause-value

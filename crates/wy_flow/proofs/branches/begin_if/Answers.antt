@@ -1,8 +1,8 @@
 use Rattle.std.proofs.Common.{refl}
-use Rattle.wy_environment.specs.Seen.{seen_slots}
-use Rattle.wy_flow_expressions.specs.Seen.{seen_flow, seen_found}
-use Rattle.wy_typing.specs.Outcomes.{gave}
-use Rattle.wy_checks.proofs.StepLemmas.{first_refused}
+use Rattle.wy_flow_spec.specs.environment.Seen.{seen_slots}
+use Rattle.wy_flow_exprs.specs.Seen.{seen_flow, seen_found}
+use Rattle.wy_flow_spec.specs.typing.Outcomes.{gave}
+use Rattle.wy_flow_exprs.proofs.checks_lemmas.StepLemmas.{first_refused}
 use Rattle.wy_flow.proofs.WalkLemmas.{begun_is}
 use Rattle.wy_flow.proofs.branches.begin_if.Goals as goal
 

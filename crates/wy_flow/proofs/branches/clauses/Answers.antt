@@ -1,13 +1,14 @@
 use Rattle.std.proofs.Common.{refl, sym}
 use Rattle.wy_core.specs.CoreSeen.{seen_expr, seen_exprs}
-use Rattle.wy_environment.specs.Seen.{seen_environment}
-use Rattle.wy_flow_expressions.specs.Seen.{seen_flow, seen_found, seen_program}
-use Rattle.wy_typing.specs.Loops as loops
-use Rattle.wy_typing.specs.Outcomes.{gave, stopped}
-use Rattle.wy_typing.specs.States as states
-use Rattle.wy_checks.proofs.StepLemmas.{first_refused}
+use Rattle.wy_flow_spec.specs.environment.Seen.{seen_environment}
+use Rattle.wy_flow_exprs.specs.Seen.{seen_flow, seen_found, seen_program}
+use Rattle.wy_lemmas.proofs.Lists.{next_of as item_and_rest}
+use Rattle.wy_flow_spec.specs.typing.Loops as loops
+use Rattle.wy_flow_spec.specs.typing.Outcomes.{gave, stopped}
+use Rattle.wy_flow_spec.specs.typing.States as states
+use Rattle.wy_flow_exprs.proofs.checks_lemmas.StepLemmas.{first_refused}
 use Rattle.wy_flow.proofs.SeenLemmas.{place_is}
-use Rattle.wy_flow.proofs.WalkLemmas.{moved, shifted, onto, item_and_rest}
+use Rattle.wy_flow.proofs.WalkLemmas.{moved, shifted, onto}
 use Rattle.wy_flow.proofs.branches.clauses.Goals as goal
 
 pub returns-in_err-_found-clause-value : goal.returns-in_err-_found-clause-value

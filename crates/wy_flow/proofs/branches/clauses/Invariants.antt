@@ -1,12 +1,12 @@
 use Rattle.std.proofs.Common.{List, drop}
 use Rattle.wy_core.specs.CoreSeen.{seen_exprs}
 use Rattle.wy_core.specs.Types.{Ty}
-use Rattle.wy_environment.specs.Seen.{seen_environment}
-use Rattle.wy_flow_expressions.specs.Seen.{seen_flow, seen_program}
+use Rattle.wy_flow_spec.specs.environment.Seen.{seen_environment}
+use Rattle.wy_flow_exprs.specs.Seen.{seen_flow, seen_program}
 use Rattle.wy_types.specs.Names.{types_of}
 use Rattle.wy_types.specs.Questions.{IsOver}
-use Rattle.wy_typing.specs.Loops as spec
-use Rattle.wy_typing.specs.Outcomes.{Outcome}
+use Rattle.wy_flow_spec.specs.typing.Loops as spec
+use Rattle.wy_flow_spec.specs.typing.Outcomes.{Outcome}
 use Rattle.wy_flow.proofs.branches.clauses.Given as goal
 
 abbrev pub invariant-loop-clause : goal.invariant-loop-clause

@@ -1,7 +1,7 @@
 use Rattle.std.proofs.Common.{refl}
-use Rattle.wy_environment.specs.Seen.{seen_environment}
-use Rattle.wy_typing.specs.Outcomes.{gave}
-use Rattle.wy_checks.proofs.StepLemmas.{first_refused}
+use Rattle.wy_flow_spec.specs.environment.Seen.{seen_environment}
+use Rattle.wy_flow_spec.specs.typing.Outcomes.{gave}
+use Rattle.wy_flow_exprs.proofs.checks_lemmas.StepLemmas.{first_refused}
 use Rattle.wy_flow.proofs.branches.end_if.Goals as goal
 
 pub returns-in_err-env-clause-value : goal.returns-in_err-env-clause-value

@@ -1,10 +1,10 @@
 use Rattle.std.proofs.Common.{refl}
 use Rattle.wy_core.specs.CoreSeen.{seen_ty}
-use Rattle.wy_flow_expressions.specs.Seen.{seen_flow, seen_found}
+use Rattle.wy_flow_exprs.specs.Seen.{seen_flow, seen_found}
 use Rattle.wy_types.specs.Names.{types_of}
-use Rattle.wy_typing.specs.Asked as asked
-use Rattle.wy_typing.specs.Outcomes.{Gives, Fails, gave}
-use Rattle.wy_checks.proofs.StepLemmas.{next, first_refused}
+use Rattle.wy_flow_spec.specs.typing.Asked as asked
+use Rattle.wy_flow_spec.specs.typing.Outcomes.{Gives, Fails, gave}
+use Rattle.wy_flow_exprs.proofs.checks_lemmas.StepLemmas.{next, first_refused}
 use Rattle.wy_flow.proofs.WalkLemmas.{shifted}
 use Rattle.wy_flow.proofs.branches.tested.Goals as goal
 

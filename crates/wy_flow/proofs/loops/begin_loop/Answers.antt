@@ -1,13 +1,13 @@
 use Rattle.std.proofs.Common.{ap, ◌∙◌}
 use Rattle.wy_core.specs.CoreSeen.{seen_expr}
-use Rattle.wy_environment.specs.Seen.{seen_environment, seen_slots}
+use Rattle.wy_flow_spec.specs.environment.Seen.{seen_environment, seen_slots}
 use Rattle.wy_flow.specs.States.{seen_environments, seen_state}
-use Rattle.wy_flow_expressions.specs.Seen.{seen_flow, seen_found, seen_program}
+use Rattle.wy_flow_exprs.specs.Seen.{seen_flow, seen_found, seen_program}
 use Rattle.wy_types.specs.Names.{types_of}
-use Rattle.wy_typing.specs.Loops as loops
-use Rattle.wy_typing.specs.Outcomes.{gave}
-use Rattle.wy_typing.specs.States as states
-use Rattle.wy_checks.proofs.StepLemmas.{next, first_refused}
+use Rattle.wy_flow_spec.specs.typing.Loops as loops
+use Rattle.wy_flow_spec.specs.typing.Outcomes.{gave}
+use Rattle.wy_flow_spec.specs.typing.States as states
+use Rattle.wy_flow_exprs.proofs.checks_lemmas.StepLemmas.{next, first_refused}
 use Rattle.wy_flow.proofs.WalkLemmas.{shifted, begun_is}
 use Rattle.wy_flow.proofs.loops.begin_loop.Goals as goal
 

@@ -1,12 +1,12 @@
 use Rattle.std.proofs.Common.{ap}
-use Rattle.wy_environment.specs.Seen.{seen_environment, seen_slots}
+use Rattle.wy_flow_spec.specs.environment.Seen.{seen_environment, seen_slots}
 use Rattle.wy_flow.specs.States.{seen_environments}
 use Rattle.wy_types.specs.Names.{types_of}
-use Rattle.wy_typing.specs.Loops as loops
-use Rattle.wy_typing.specs.Outcomes.{Gives, gave}
-use Rattle.wy_checks.proofs.StepLemmas.{first_refused}
+use Rattle.wy_flow_spec.specs.typing.Loops as loops
+use Rattle.wy_flow_spec.specs.typing.Outcomes.{Gives, gave}
+use Rattle.wy_flow_exprs.proofs.checks_lemmas.StepLemmas.{first_refused}
 use Rattle.wy_flow.proofs.WalkLemmas as walks
-use Rattle.wy_flow.proofs.WalkLemmas.{moved, shifted, onto, normal_meets, normal_given, head_meets, end_if_by, end_loop_by, item_and_rest, begun, begun_is, types_pushed}
+use Rattle.wy_flow.proofs.WalkLemmas.{moved, shifted, onto, normal_meets, normal_given, head_meets, end_if_by, end_loop_by, begun, begun_is, types_pushed}
 use Rattle.wy_flow.proofs.loops.end_loop.Goals as goal
 
 pub returns-in_err-env-clause-value : goal.returns-in_err-env-clause-value

@@ -1,12 +1,13 @@
 use Rattle.std.proofs.Common.{sym}
-use Rattle.wy_environment.specs.Seen.{seen_environment}
+use Rattle.wy_flow_spec.specs.environment.Seen.{seen_environment}
 use Rattle.wy_flow.specs.States.{seen_environments}
+use Rattle.wy_lemmas.proofs.Lists.{next_of as item_and_rest}
 use Rattle.wy_types.specs.Names.{types_of}
-use Rattle.wy_typing.specs.Joins as joins
-use Rattle.wy_typing.specs.Loops as loops
-use Rattle.wy_typing.specs.Outcomes.{Gives, Fails, gave}
-use Rattle.wy_checks.proofs.StepLemmas.{first_refused}
-use Rattle.wy_flow.proofs.WalkLemmas.{moved, shifted, onto, item_and_rest}
+use Rattle.wy_flow_spec.specs.typing.Joins as joins
+use Rattle.wy_flow_spec.specs.typing.Loops as loops
+use Rattle.wy_flow_spec.specs.typing.Outcomes.{Gives, Fails, gave}
+use Rattle.wy_flow_exprs.proofs.checks_lemmas.StepLemmas.{first_refused}
+use Rattle.wy_flow.proofs.WalkLemmas.{moved, shifted, onto}
 use Rattle.wy_flow.proofs.loops.exit.Goals as goal
 
 pub returns-in_err-next-clause-value : goal.returns-in_err-next-clause-value

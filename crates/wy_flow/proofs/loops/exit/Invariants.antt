@@ -1,12 +1,12 @@
 use Rattle.std.proofs.Common.{◌≡◌, drop}
-use Rattle.wy_environment.specs.Seen.{seen_environment}
-use Rattle.wy_environment.specs.Variables as variables
+use Rattle.wy_flow_spec.specs.environment.Seen.{seen_environment}
+use Rattle.wy_flow_spec.specs.environment.Variables as variables
 use Rattle.wy_flow.specs.States.{seen_environments}
-use Rattle.wy_flow_expressions.specs.Seen.{seen_flow}
+use Rattle.wy_flow_exprs.specs.Seen.{seen_flow}
 use Rattle.wy_types.specs.Names.{types_of}
 use Rattle.wy_types.specs.Questions.{IsOver}
-use Rattle.wy_typing.specs.Loops as spec
-use Rattle.wy_typing.specs.Outcomes.{Outcome}
+use Rattle.wy_flow_spec.specs.typing.Loops as spec
+use Rattle.wy_flow_spec.specs.typing.Outcomes.{Outcome}
 use Rattle.wy_flow.proofs.loops.exit.Given as goal
 
 abbrev pub invariant-loop-other : goal.invariant-loop-other

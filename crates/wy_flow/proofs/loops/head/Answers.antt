@@ -1,9 +1,9 @@
 use Rattle.std.proofs.Common.{sym, ap, ◌∙◌}
-use Rattle.wy_environment.specs.Seen.{seen_environment, seen_slots}
+use Rattle.wy_flow_spec.specs.environment.Seen.{seen_environment, seen_slots}
 use Rattle.wy_flow.specs.States.{seen_state}
-use Rattle.wy_flow_expressions.specs.Seen.{seen_flow}
+use Rattle.wy_flow_exprs.specs.Seen.{seen_flow}
 use Rattle.wy_types.specs.Names.{types_of}
-use Rattle.wy_typing.specs.Loops as loops
+use Rattle.wy_flow_spec.specs.typing.Loops as loops
 use Rattle.wy_flow.proofs.WalkLemmas.{moved, head_meets}
 use Rattle.wy_flow.proofs.loops.head.Goals as goal
 

@@ -1,10 +1,10 @@
 use Rattle.std.proofs.Common.{Some, sym, ap}
 use Rattle.wy_core.specs.CoreSeen.{seen_ty}
-use Rattle.wy_environment.specs.Seen.{seen_environment, seen_slot}
+use Rattle.wy_flow_spec.specs.environment.Seen.{seen_environment, seen_slot}
 use Rattle.wy_types.specs.Names.{types_of}
-use Rattle.wy_typing.specs.Loops as loops
-use Rattle.wy_typing.specs.Outcomes.{Gives, gave}
-use Rattle.wy_checks.proofs.StepLemmas.{first_refused}
+use Rattle.wy_flow_spec.specs.typing.Loops as loops
+use Rattle.wy_flow_spec.specs.typing.Outcomes.{Gives, gave}
+use Rattle.wy_flow_exprs.proofs.checks_lemmas.StepLemmas.{first_refused}
 use Rattle.wy_flow.proofs.WalkLemmas.{moved, shifted}
 use Rattle.wy_flow.proofs.loops.renewed.Goals as goal
 

@@ -1,9 +1,9 @@
 use Rattle.std.proofs.Common.{get_or, sym, ◌∙◌}
-use Rattle.wy_environment.specs.Seen.{seen_environment, seen_slots}
+use Rattle.wy_flow_spec.specs.environment.Seen.{seen_environment, seen_slots}
 use Rattle.wy_types.specs.Names.{types_of}
-use Rattle.wy_typing.specs.Loops as loops
-use Rattle.wy_typing.specs.Outcomes.{Gives, Fails, gave}
-use Rattle.wy_checks.proofs.StepLemmas.{first_refused}
+use Rattle.wy_flow_spec.specs.typing.Loops as loops
+use Rattle.wy_flow_spec.specs.typing.Outcomes.{Gives, Fails, gave}
+use Rattle.wy_flow_exprs.proofs.checks_lemmas.StepLemmas.{first_refused}
 use Rattle.wy_flow.proofs.WalkLemmas.{moved, shifted, onto}
 use Rattle.std.proofs.lemmas.List.{drop_more}
 use Rattle.wy_flow.proofs.loops.renewed_all.Goals as goal

@@ -1,13 +1,14 @@
 use Rattle.std.proofs.Common.{[], ◌∷◌, ◌+◌, ◌++◌, length, map, drop, sym, ap, ◌∙◌, arith}
 use Rattle.wy_core.specs.CoreSeen.{seen_step, seen_ty}
-use Rattle.wy_environment.specs.Seen.{seen_environment}
+use Rattle.wy_flow_spec.specs.environment.Seen.{seen_environment}
 use Rattle.wy_flow.specs.Paths.{seen_reached}
-use Rattle.wy_flow_expressions.specs.Seen.{seen_all, seen_flow, seen_program, seen_types}
-use Rattle.wy_typing.specs.Outcomes.{gave}
-use Rattle.wy_typing.specs.Paths as paths
-use Rattle.wy_checks.proofs.StepLemmas.{first_refused}
+use Rattle.wy_flow_exprs.specs.Seen.{seen_all, seen_flow, seen_program, seen_types}
+use Rattle.wy_lemmas.proofs.Lists.{next_of as item_and_rest}
+use Rattle.wy_flow_spec.specs.typing.Outcomes.{gave}
+use Rattle.wy_flow_spec.specs.typing.Paths as paths
+use Rattle.wy_flow_exprs.proofs.checks_lemmas.StepLemmas.{first_refused}
 use Rattle.wy_flow.proofs.WalkLemmas as walks
-use Rattle.wy_flow.proofs.WalkLemmas.{moved, shifted, onto, normal_meets, normal_given, head_meets, end_if_by, end_loop_by, item_and_rest, begun, begun_is, types_pushed}
+use Rattle.wy_flow.proofs.WalkLemmas.{moved, shifted, onto, normal_meets, normal_given, head_meets, end_if_by, end_loop_by, begun, begun_is, types_pushed}
 use Rattle.std.proofs.lemmas.List.{length_push}
 use Rattle.wy_flow.proofs.paths.path_types.Goals as goal
 

@@ -1,12 +1,12 @@
 use Rattle.std.proofs.Common.{◌≡◌, ◌+◌, length, drop, map}
 use Rattle.wy_core.specs.CoreSeen.{seen_step, seen_ty}
-use Rattle.wy_environment.specs.Seen.{seen_environment}
-use Rattle.wy_flow_expressions.specs.Seen.{seen_all, seen_flow, seen_program}
+use Rattle.wy_flow_spec.specs.environment.Seen.{seen_environment}
+use Rattle.wy_flow_exprs.specs.Seen.{seen_all, seen_flow, seen_program}
 use Rattle.wy_types.specs.Names.{types_of}
 use Rattle.wy_types.specs.Questions.{IsOver}
-use Rattle.wy_typing.specs.Contexts.{FoundAll}
-use Rattle.wy_typing.specs.Outcomes.{Outcome}
-use Rattle.wy_typing.specs.Paths as spec
+use Rattle.wy_flow_spec.specs.typing.Contexts.{FoundAll}
+use Rattle.wy_flow_spec.specs.typing.Outcomes.{Outcome}
+use Rattle.wy_flow_spec.specs.typing.Paths as spec
 use Rattle.wy_flow.proofs.paths.path_types.Given as goal
 
 abbrev pub invariant-loop-step : goal.invariant-loop-step

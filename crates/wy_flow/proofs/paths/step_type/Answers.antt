@@ -1,13 +1,13 @@
 use Rattle.std.proofs.Common.{refl, sym, ap}
 use Rattle.wy_core.specs.CoreSeen.{seen_step_kind, seen_ty}
-use Rattle.wy_environment.specs.Seen.{seen_environment}
+use Rattle.wy_flow_spec.specs.environment.Seen.{seen_environment}
 use Rattle.wy_flow.specs.Paths.{seen_reached}
-use Rattle.wy_flow_expressions.specs.Seen.{seen_flow, seen_found, seen_program}
+use Rattle.wy_flow_exprs.specs.Seen.{seen_flow, seen_found, seen_program}
 use Rattle.wy_types.specs.Names.{types_of}
-use Rattle.wy_typing.specs.Asked as asked
-use Rattle.wy_typing.specs.Outcomes.{Gives, Fails, gave}
-use Rattle.wy_typing.specs.Paths as paths
-use Rattle.wy_checks.proofs.StepLemmas.{next, first_refused}
+use Rattle.wy_flow_spec.specs.typing.Asked as asked
+use Rattle.wy_flow_spec.specs.typing.Outcomes.{Gives, Fails, gave}
+use Rattle.wy_flow_spec.specs.typing.Paths as paths
+use Rattle.wy_flow_exprs.proofs.checks_lemmas.StepLemmas.{next, first_refused}
 use Rattle.wy_flow.proofs.WalkLemmas.{moved, shifted}
 use Rattle.wy_flow.proofs.paths.step_type.Goals as goal
 

@@ -1,10 +1,10 @@
 use Rattle.std.proofs.Common.{sym, ap, ◌∙◌, subst}
 use Rattle.wy_core.specs.CoreSeen.{seen_step, seen_step_kind, seen_ty}
 use Rattle.wy_types.specs.Names.{types_of}
-use Rattle.wy_typing.specs.Asked as asked
-use Rattle.wy_typing.specs.Outcomes.{Gives, Fails}
-use Rattle.wy_typing.specs.Paths as paths
-use Rattle.wy_checks.proofs.StepLemmas.{refused_on, no_memory}
+use Rattle.wy_flow_spec.specs.typing.Asked as asked
+use Rattle.wy_flow_spec.specs.typing.Outcomes.{Gives, Fails}
+use Rattle.wy_flow_spec.specs.typing.Paths as paths
+use Rattle.wy_flow_exprs.proofs.checks_lemmas.StepLemmas.{refused_on, no_memory}
 use Rattle.wy_flow.proofs.WalkLemmas.{moved, shifted}
 use Rattle.wy_flow.proofs.paths.step_updated.Goals as goal
 

@@ -1,10 +1,10 @@
 use Rattle.std.proofs.Common.{◌≡◌, ◌<◌, ◌+◌, ◌-◌, length, map, ◌∙◌, subst, arith}
 use Rattle.wy_core.specs.CoreSeen.{seen_step, seen_ty}
-use Rattle.wy_flow_expressions.specs.Seen.{seen_types}
+use Rattle.wy_flow_exprs.specs.Seen.{seen_types}
 use Rattle.wy_types.specs.Names.{types_of}
-use Rattle.wy_typing.specs.Outcomes.{Gives}
-use Rattle.wy_typing.specs.Paths as paths
-use Rattle.wy_checks.proofs.StepLemmas.{refused_on}
+use Rattle.wy_flow_spec.specs.typing.Outcomes.{Gives}
+use Rattle.wy_flow_spec.specs.typing.Paths as paths
+use Rattle.wy_flow_exprs.proofs.checks_lemmas.StepLemmas.{refused_on}
 use Rattle.wy_flow.proofs.PathLemmas as along
 use Rattle.wy_flow.proofs.paths.updated.Goals as goal
 

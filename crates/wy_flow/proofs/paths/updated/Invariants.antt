@@ -1,9 +1,9 @@
 use Rattle.std.proofs.Common.{◌≡◌, ◌≤◌, length}
 use Rattle.wy_core.specs.CoreSeen.{seen_ty}
-use Rattle.wy_flow_expressions.specs.Seen.{seen_flow}
+use Rattle.wy_flow_exprs.specs.Seen.{seen_flow}
 use Rattle.wy_types.specs.Names.{types_of}
 use Rattle.wy_types.specs.Questions.{IsOver}
-use Rattle.wy_typing.specs.Outcomes.{Gives}
+use Rattle.wy_flow_spec.specs.typing.Outcomes.{Gives}
 use Rattle.wy_flow.proofs.PathLemmas.{From}
 use Rattle.wy_flow.proofs.paths.updated.Given as goal
 

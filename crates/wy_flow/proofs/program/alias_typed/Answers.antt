@@ -1,11 +1,11 @@
 use Rattle.std.proofs.Common.{sym}
 use Rattle.wy_core.specs.CoreSeen.{seen_alias, seen_exprs}
-use Rattle.wy_environment.specs.Seen.{seen_environment}
-use Rattle.wy_flow_expressions.specs.Seen.{seen_flow, seen_program}
+use Rattle.wy_flow_spec.specs.environment.Seen.{seen_environment}
+use Rattle.wy_flow_exprs.specs.Seen.{seen_flow, seen_program}
 use Rattle.wy_types.specs.Names.{types_of}
-use Rattle.wy_typing.specs.Loops as loops
-use Rattle.wy_typing.specs.Programs as programs
-use Rattle.wy_checks.proofs.StepLemmas.{next, first_refused}
+use Rattle.wy_flow_spec.specs.typing.Loops as loops
+use Rattle.wy_flow_spec.specs.typing.Programs as programs
+use Rattle.wy_flow_exprs.proofs.checks_lemmas.StepLemmas.{next, first_refused}
 use Rattle.wy_flow.proofs.WalkLemmas.{moved, shifted}
 use Rattle.wy_flow.proofs.program.alias_typed.Goals as goal
 

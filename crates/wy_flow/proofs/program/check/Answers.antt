@@ -1,12 +1,12 @@
 use Rattle.std.proofs.Common.{[], map, sym, ap, ◌∙◌, subst}
 use Rattle.wy_core.specs.CoreSeen.{seen_core, seen_decl}
-use Rattle.wy_flow_expressions.specs.Seen.{seen_signature, seen_types}
+use Rattle.wy_flow_exprs.specs.Seen.{seen_signature, seen_types}
 use Rattle.wy_types.specs.Names.{types_of}
-use Rattle.wy_typing.specs.Outcomes.{Gives, Fails}
-use Rattle.wy_typing.specs.Programs as programs
+use Rattle.wy_flow_spec.specs.typing.Outcomes.{Gives, Fails}
+use Rattle.wy_flow_spec.specs.typing.Programs as programs
 use Rattle.wy_flow.proofs.WalkLemmas.{shifted}
 use Rattle.wy_flow.proofs.ProgramLemmas.{program, program_is, refused_complete, refused_fault, refused_exact, same_flow, not_both}
-use Rattle.wy_typing.specs.TypedPrograms.{core_of, flow_of}
+use Rattle.wy_flow_spec.specs.typing.TypedPrograms.{core_of, flow_of}
 use Rattle.wy_flow.proofs.program.check.Goals as goal
 
 pub returns-in_err-flow-clause-complete : goal.returns-in_err-flow-clause-complete

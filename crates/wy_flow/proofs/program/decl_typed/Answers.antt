@@ -1,7 +1,7 @@
 use Rattle.std.proofs.Common.{sym}
 use Rattle.wy_core.specs.CoreSeen.{seen_decl}
-use Rattle.wy_flow_expressions.specs.Seen.{seen_flow, seen_program}
-use Rattle.wy_typing.specs.Programs as programs
+use Rattle.wy_flow_exprs.specs.Seen.{seen_flow, seen_program}
+use Rattle.wy_flow_spec.specs.typing.Programs as programs
 use Rattle.wy_flow.proofs.WalkLemmas.{moved}
 use Rattle.wy_flow.proofs.program.decl_typed.Goals as goal
 

@@ -1,7 +1,7 @@
 use Rattle.std.proofs.Common.{◌≡◌, [], drop, map}
 use Rattle.wy_core.specs.CoreSeen.{seen_param}
-use Rattle.wy_environment.specs.Seen.{seen_slots}
-use Rattle.wy_typing.specs.Programs as spec
+use Rattle.wy_flow_spec.specs.environment.Seen.{seen_slots}
+use Rattle.wy_flow_spec.specs.typing.Programs as spec
 use Rattle.wy_flow.proofs.program.declared_params.Given as goal
 
 abbrev pub invariant-loop-param : goal.invariant-loop-param

@@ -1,10 +1,11 @@
 use Rattle.std.proofs.Common.{map, sym}
 use Rattle.wy_core.specs.CoreSeen.{seen_decl}
-use Rattle.wy_flow_expressions.specs.Seen.{seen_flow, seen_program}
-use Rattle.wy_typing.specs.Outcomes.{gave}
-use Rattle.wy_typing.specs.Programs as programs
-use Rattle.wy_checks.proofs.StepLemmas.{first_refused}
-use Rattle.wy_flow.proofs.WalkLemmas.{moved, shifted, onto, item_and_rest}
+use Rattle.wy_flow_exprs.specs.Seen.{seen_flow, seen_program}
+use Rattle.wy_lemmas.proofs.Lists.{next_of as item_and_rest}
+use Rattle.wy_flow_spec.specs.typing.Outcomes.{gave}
+use Rattle.wy_flow_spec.specs.typing.Programs as programs
+use Rattle.wy_flow_exprs.proofs.checks_lemmas.StepLemmas.{first_refused}
+use Rattle.wy_flow.proofs.WalkLemmas.{moved, shifted, onto}
 use Rattle.wy_flow.proofs.program.flow_types.Goals as goal
 
 pub returns-in_err-decl_typed : goal.returns-in_err-decl_typed

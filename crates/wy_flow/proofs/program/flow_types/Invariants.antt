@@ -1,11 +1,11 @@
 use Rattle.std.proofs.Common.{List, [], drop, map}
 use Rattle.wy_core.specs.CoreSeen.{seen_decl}
 use Rattle.wy_core.specs.Types.{Ty}
-use Rattle.wy_flow_expressions.specs.Seen.{seen_flow, seen_program}
+use Rattle.wy_flow_exprs.specs.Seen.{seen_flow, seen_program}
 use Rattle.wy_types.specs.Names.{types_of}
 use Rattle.wy_types.specs.Questions.{IsOver}
-use Rattle.wy_typing.specs.Outcomes.{Outcome}
-use Rattle.wy_typing.specs.Programs as spec
+use Rattle.wy_flow_spec.specs.typing.Outcomes.{Outcome}
+use Rattle.wy_flow_spec.specs.typing.Programs as spec
 use Rattle.wy_flow.proofs.program.flow_types.Given as goal
 
 abbrev pub invariant-loop-decl : goal.invariant-loop-decl

@@ -1,17 +1,17 @@
 use Rattle.std.proofs.Common.{[], map, refl, ap, ◌∙◌}
 use Rattle.wy_core.specs.CoreSeen.{seen_block, seen_exprs, seen_param, seen_routine}
-use Rattle.wy_environment.specs.Seen.{seen_environment, seen_slots}
-use Rattle.wy_environment.specs.Variables as variables
+use Rattle.wy_flow_spec.specs.environment.Seen.{seen_environment, seen_slots}
+use Rattle.wy_flow_spec.specs.environment.Variables as variables
 use Rattle.wy_flow.specs.States.{seen_environments, seen_state}
-use Rattle.wy_flow_expressions.specs.Seen.{seen_flow, seen_program, seen_result}
+use Rattle.wy_flow_exprs.specs.Seen.{seen_flow, seen_program, seen_result}
 use Rattle.wy_types.specs.Names.{types_of}
-use Rattle.wy_typing.specs.Loops as loops
-use Rattle.wy_typing.specs.Outcomes.{gave}
-use Rattle.wy_typing.specs.Programs as programs
-use Rattle.wy_typing.specs.Statements as spec
-use Rattle.wy_checks.proofs.StepLemmas.{next, first_refused}
+use Rattle.wy_flow_spec.specs.typing.Loops as loops
+use Rattle.wy_flow_spec.specs.typing.Outcomes.{gave}
+use Rattle.wy_flow_spec.specs.typing.Programs as programs
+use Rattle.wy_flow_spec.specs.typing.Statements as spec
+use Rattle.wy_flow_exprs.proofs.checks_lemmas.StepLemmas.{next, first_refused}
 use Rattle.wy_flow.proofs.WalkLemmas as walks
-use Rattle.wy_flow.proofs.WalkLemmas.{moved, shifted, onto, normal_meets, normal_given, head_meets, end_if_by, end_loop_by, item_and_rest, begun, begun_is, types_pushed}
+use Rattle.wy_flow.proofs.WalkLemmas.{moved, shifted, onto, normal_meets, normal_given, head_meets, end_if_by, end_loop_by, begun, begun_is, types_pushed}
 use Rattle.wy_flow.proofs.program.routine_typed.Goals as goal
 
 pub returns-in_err-env-clause-value : goal.returns-in_err-env-clause-value

@@ -1,11 +1,12 @@
 use Rattle.std.proofs.Common.{map, sym, ◌∙◌}
 use Rattle.wy_core.specs.CoreSeen.{seen_param}
-use Rattle.wy_environment.specs.Seen.{seen_environment}
+use Rattle.wy_flow_spec.specs.environment.Seen.{seen_environment}
+use Rattle.wy_lemmas.proofs.Lists.{next_of as item_and_rest}
 use Rattle.wy_types.specs.Names.{types_of}
-use Rattle.wy_typing.specs.Outcomes.{gave}
-use Rattle.wy_typing.specs.Programs as programs
-use Rattle.wy_checks.proofs.StepLemmas.{first_refused}
-use Rattle.wy_flow.proofs.WalkLemmas.{moved, shifted, onto, item_and_rest}
+use Rattle.wy_flow_spec.specs.typing.Outcomes.{gave}
+use Rattle.wy_flow_spec.specs.typing.Programs as programs
+use Rattle.wy_flow_exprs.proofs.checks_lemmas.StepLemmas.{first_refused}
+use Rattle.wy_flow.proofs.WalkLemmas.{moved, shifted, onto}
 use Rattle.wy_flow.proofs.program.with_params.Goals as goal
 
 pub returns-in_err-next-clause-value : goal.returns-in_err-next-clause-value

@@ -1,12 +1,12 @@
 use Rattle.std.proofs.Common.{◌≡◌, drop, map}
 use Rattle.wy_core.specs.CoreSeen.{seen_param}
-use Rattle.wy_environment.specs.Seen.{seen_environment}
-use Rattle.wy_environment.specs.Variables as variables
-use Rattle.wy_flow_expressions.specs.Seen.{seen_flow}
+use Rattle.wy_flow_spec.specs.environment.Seen.{seen_environment}
+use Rattle.wy_flow_spec.specs.environment.Variables as variables
+use Rattle.wy_flow_exprs.specs.Seen.{seen_flow}
 use Rattle.wy_types.specs.Names.{types_of}
 use Rattle.wy_types.specs.Questions.{IsOver}
-use Rattle.wy_typing.specs.Outcomes.{Outcome}
-use Rattle.wy_typing.specs.Programs as spec
+use Rattle.wy_flow_spec.specs.typing.Outcomes.{Outcome}
+use Rattle.wy_flow_spec.specs.typing.Programs as spec
 use Rattle.wy_flow.proofs.program.with_params.Given as goal
 
 abbrev pub invariant-loop-param : goal.invariant-loop-param

@@ -1,8 +1,8 @@
 use Rattle.std.proofs.Common.{sym}
 use Rattle.wy_core.specs.CoreSeen.{seen_output}
-use Rattle.wy_environment.specs.Seen.{seen_environment}
+use Rattle.wy_flow_spec.specs.environment.Seen.{seen_environment}
 use Rattle.wy_types.specs.Names.{types_of}
-use Rattle.wy_typing.specs.Programs as programs
+use Rattle.wy_flow_spec.specs.typing.Programs as programs
 use Rattle.wy_flow.proofs.WalkLemmas.{moved}
 use Rattle.wy_flow.proofs.program.with_result.Goals as goal
 

@@ -1,7 +1,7 @@
 use Rattle.std.proofs.Common.{ap}
 use Rattle.wy_core.specs.CoreSeen.{seen_ty}
-use Rattle.wy_typing.specs.Outcomes.{Gives, gave}
-use Rattle.wy_checks.proofs.StepLemmas.{first_refused}
+use Rattle.wy_flow_spec.specs.typing.Outcomes.{Gives, gave}
+use Rattle.wy_flow_exprs.proofs.checks_lemmas.StepLemmas.{first_refused}
 use Rattle.wy_flow.proofs.program.with_variable.Goals as goal
 
 pub returns-in_err-made-clause-value : goal.returns-in_err-made-clause-value

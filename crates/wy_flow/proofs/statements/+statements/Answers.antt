@@ -1,14 +1,15 @@
 use Rattle.std.proofs.Common.{map, rules, refl, sym, ap, arith}
 use Rattle.wy_core.specs.CoreSeen.{seen_block, seen_expr, seen_exprs, seen_step}
 use Rattle.wy_core.specs.CoreTree as tree
+use Rattle.wy_flow_spec.proofs.environment_lemmas.SharedLemmas.{seen_assert, seen_assign, seen_break, seen_call, seen_continue, seen_declare, seen_fail, seen_if, seen_return, seen_skip, seen_while}
 use Rattle.wy_flow.specs.States.{seen_state}
-use Rattle.wy_flow_expressions.specs.Seen.{seen_flow, seen_program, seen_result}
-use Rattle.wy_typing.specs.Outcomes.{Gives, gave}
-use Rattle.wy_typing.specs.States as states
-use Rattle.wy_typing.specs.Statements as spec
-use Rattle.wy_checks.proofs.StepLemmas.{next, first_refused}
-use Rattle.wy_flow.proofs.SeenLemmas.{seen_declare, seen_assign, seen_call, seen_return, seen_assert, seen_break, seen_continue, seen_skip, seen_fail, seen_if, seen_while}
-use Rattle.wy_flow.proofs.WalkLemmas.{moved, shifted, onto, end_if_by, end_loop_by, item_and_rest}
+use Rattle.wy_flow_exprs.specs.Seen.{seen_flow, seen_program, seen_result}
+use Rattle.wy_lemmas.proofs.Lists.{next_of as item_and_rest}
+use Rattle.wy_flow_spec.specs.typing.Outcomes.{Gives, gave}
+use Rattle.wy_flow_spec.specs.typing.States as states
+use Rattle.wy_flow_spec.specs.typing.Statements as spec
+use Rattle.wy_flow_exprs.proofs.checks_lemmas.StepLemmas.{next, first_refused}
+use Rattle.wy_flow.proofs.WalkLemmas.{moved, shifted, onto, end_if_by, end_loop_by}
 use Rattle.wy_flow.proofs.LessLemmas.{first_falls, second_falls, body_falls}
 use Rattle.wy_flow.proofs.statements.+statements.Goals as goal
 

@@ -1,9 +1,9 @@
 use Rattle.std.proofs.Common.{ap}
 use Rattle.wy_flow.specs.States.{seen_state}
-use Rattle.wy_flow_expressions.specs.Seen.{seen_all, seen_flow, seen_program, seen_types}
-use Rattle.wy_typing.specs.Calls as calls
-use Rattle.wy_typing.specs.Outcomes.{Gives, gave}
-use Rattle.wy_checks.proofs.StepLemmas.{next, first_refused}
+use Rattle.wy_flow_exprs.specs.Seen.{seen_all, seen_flow, seen_program, seen_types}
+use Rattle.wy_flow_spec.specs.typing.Calls as calls
+use Rattle.wy_flow_spec.specs.typing.Outcomes.{Gives, gave}
+use Rattle.wy_flow_exprs.proofs.checks_lemmas.StepLemmas.{next, first_refused}
 use Rattle.wy_flow.proofs.WalkLemmas.{shifted}
 use Rattle.wy_flow.proofs.statements.called.Goals as goal
 

@@ -1,8 +1,8 @@
 use Rattle.std.proofs.Common.{sym}
 use Rattle.wy_core.specs.CoreSeen.{seen_ty}
-use Rattle.wy_flow_expressions.specs.Seen.{seen_result}
+use Rattle.wy_flow_exprs.specs.Seen.{seen_result}
 use Rattle.wy_types.specs.Names.{types_of}
-use Rattle.wy_typing.specs.Statements as spec
+use Rattle.wy_flow_spec.specs.typing.Statements as spec
 use Rattle.wy_flow.proofs.WalkLemmas.{moved}
 use Rattle.wy_flow.proofs.statements.fits_result.Goals as goal
 

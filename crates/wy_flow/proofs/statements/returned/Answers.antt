@@ -1,10 +1,10 @@
 use Rattle.std.proofs.Common.{sym, ap}
 use Rattle.wy_core.specs.CoreSeen.{seen_option}
 use Rattle.wy_flow.specs.States.{seen_state}
-use Rattle.wy_flow_expressions.specs.Seen.{seen_flow, seen_program, seen_result}
-use Rattle.wy_typing.specs.Outcomes.{Gives}
-use Rattle.wy_typing.specs.States as states
-use Rattle.wy_typing.specs.Statements as spec
+use Rattle.wy_flow_exprs.specs.Seen.{seen_flow, seen_program, seen_result}
+use Rattle.wy_flow_spec.specs.typing.Outcomes.{Gives}
+use Rattle.wy_flow_spec.specs.typing.States as states
+use Rattle.wy_flow_spec.specs.typing.Statements as spec
 use Rattle.wy_flow.proofs.WalkLemmas.{moved, shifted}
 use Rattle.wy_flow.proofs.statements.returned.Goals as goal
 

@@ -1,12 +1,12 @@
 use Rattle.std.proofs.Common.{ap, ◌∙◌}
 use Rattle.wy_core.specs.CoreSeen.{seen_ty}
 use Rattle.wy_flow.specs.States.{seen_state}
-use Rattle.wy_flow_expressions.specs.Seen.{seen_flow, seen_found, seen_result}
+use Rattle.wy_flow_exprs.specs.Seen.{seen_flow, seen_found, seen_result}
 use Rattle.wy_types.specs.Names.{types_of}
-use Rattle.wy_typing.specs.Outcomes.{Gives, gave}
-use Rattle.wy_typing.specs.States as states
-use Rattle.wy_typing.specs.Statements as spec
-use Rattle.wy_checks.proofs.StepLemmas.{next, first_refused}
+use Rattle.wy_flow_spec.specs.typing.Outcomes.{Gives, gave}
+use Rattle.wy_flow_spec.specs.typing.States as states
+use Rattle.wy_flow_spec.specs.typing.Statements as spec
+use Rattle.wy_flow_exprs.proofs.checks_lemmas.StepLemmas.{next, first_refused}
 use Rattle.wy_flow.proofs.WalkLemmas.{shifted}
 use Rattle.wy_flow.proofs.statements.returned_value.Goals as goal
 

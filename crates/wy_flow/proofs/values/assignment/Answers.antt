@@ -1,13 +1,13 @@
 use Rattle.std.proofs.Common.{ap}
 use Rattle.wy_core.specs.CoreSeen.{seen_ty}
-use Rattle.wy_environment.specs.Seen.{seen_environment, seen_slot}
+use Rattle.wy_flow_spec.specs.environment.Seen.{seen_environment, seen_slot}
 use Rattle.wy_flow.specs.States.{seen_state}
-use Rattle.wy_flow_expressions.specs.Seen.{seen_flow, seen_found}
+use Rattle.wy_flow_exprs.specs.Seen.{seen_flow, seen_found}
 use Rattle.wy_types.specs.Names.{types_of}
-use Rattle.wy_typing.specs.Outcomes.{Gives, gave}
-use Rattle.wy_typing.specs.States as states
-use Rattle.wy_typing.specs.Statements as spec
-use Rattle.wy_checks.proofs.StepLemmas.{next, first_refused}
+use Rattle.wy_flow_spec.specs.typing.Outcomes.{Gives, gave}
+use Rattle.wy_flow_spec.specs.typing.States as states
+use Rattle.wy_flow_spec.specs.typing.Statements as spec
+use Rattle.wy_flow_exprs.proofs.checks_lemmas.StepLemmas.{next, first_refused}
 use Rattle.wy_flow.proofs.WalkLemmas.{shifted}
 use Rattle.wy_flow.proofs.values.assignment.Goals as goal
 

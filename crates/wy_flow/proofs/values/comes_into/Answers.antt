@@ -1,7 +1,7 @@
-use Rattle.wy_environment.specs.Seen.{seen_environment}
+use Rattle.wy_flow_spec.specs.environment.Seen.{seen_environment}
 use Rattle.wy_types.specs.Names.{types_of}
-use Rattle.wy_typing.specs.States as states
-use Rattle.wy_checks.proofs.StepLemmas.{next, first_refused}
+use Rattle.wy_flow_spec.specs.typing.States as states
+use Rattle.wy_flow_exprs.proofs.checks_lemmas.StepLemmas.{next, first_refused}
 use Rattle.wy_flow.proofs.WalkLemmas.{moved}
 use Rattle.wy_flow.proofs.values.comes_into.Goals as goal
 

@@ -1,8 +1,8 @@
 use Rattle.std.proofs.Common.{rules}
 use Rattle.wy_core.specs.CoreSeen.{seen_ty}
-use Rattle.wy_environment.specs.Seen.{seen_environment}
+use Rattle.wy_flow_spec.specs.environment.Seen.{seen_environment}
 use Rattle.wy_types.specs.Names.{types_of}
-use Rattle.wy_checks.proofs.StepLemmas.{first_refused}
+use Rattle.wy_flow_exprs.proofs.checks_lemmas.StepLemmas.{first_refused}
 use Rattle.wy_flow.proofs.WalkLemmas.{normal_meets, normal_given}
 use Rattle.wy_flow.proofs.values.give_normal.Goals as goal
 

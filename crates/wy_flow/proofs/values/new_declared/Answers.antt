@@ -1,9 +1,9 @@
 use Rattle.std.proofs.Common.{Some, sym}
 use Rattle.wy_core.specs.CoreSeen.{seen_ty}
-use Rattle.wy_environment.specs.Seen.{seen_environment, seen_slot}
+use Rattle.wy_flow_spec.specs.environment.Seen.{seen_environment, seen_slot}
 use Rattle.wy_types.specs.Names.{types_of}
-use Rattle.wy_typing.specs.Statements as spec
-use Rattle.wy_checks.proofs.StepLemmas.{next, first_refused}
+use Rattle.wy_flow_spec.specs.typing.Statements as spec
+use Rattle.wy_flow_exprs.proofs.checks_lemmas.StepLemmas.{next, first_refused}
 use Rattle.wy_flow.proofs.WalkLemmas.{moved}
 use Rattle.wy_flow.proofs.values.new_declared.Goals as goal
 

@@ -1,14 +1,14 @@
 use Rattle.std.proofs.Common.{map, ap, ◌∙◌}
 use Rattle.wy_core.specs.CoreSeen.{seen_step, seen_ty}
-use Rattle.wy_environment.specs.Seen.{seen_environment}
+use Rattle.wy_flow_spec.specs.environment.Seen.{seen_environment}
 use Rattle.wy_flow.specs.States.{seen_state}
-use Rattle.wy_flow_expressions.specs.Seen.{seen_all, seen_flow, seen_found, seen_program, seen_types}
+use Rattle.wy_flow_exprs.specs.Seen.{seen_all, seen_flow, seen_found, seen_program, seen_types}
 use Rattle.wy_types.specs.Names.{types_of}
-use Rattle.wy_typing.specs.Outcomes.{Gives, gave}
-use Rattle.wy_typing.specs.Paths as paths
-use Rattle.wy_typing.specs.States as states
-use Rattle.wy_typing.specs.Statements as spec
-use Rattle.wy_checks.proofs.StepLemmas.{next, first_refused}
+use Rattle.wy_flow_spec.specs.typing.Outcomes.{Gives, gave}
+use Rattle.wy_flow_spec.specs.typing.Paths as paths
+use Rattle.wy_flow_spec.specs.typing.States as states
+use Rattle.wy_flow_spec.specs.typing.Statements as spec
+use Rattle.wy_flow_exprs.proofs.checks_lemmas.StepLemmas.{next, first_refused}
 use Rattle.wy_flow.proofs.WalkLemmas.{shifted}
 use Rattle.wy_flow.proofs.values.update.Goals as goal
 

@@ -5,10 +5,10 @@ use Rattle.wy_core.specs.declared.statements.Stmt as s
 use Rattle.wy_core.specs.declared.statements.Stmt.{Stmt}
 use Rattle.std.proofs.lemmas.Grind.{common_steps}
 use Rattle.wy_core.specs.declared.statements.StmtKind as kind
-use Rattle.wy_pieces.specs.declared.steps.Step.{Step}
-use Rattle.wy_pieces.specs.Steps.{jumped}
-use Rattle.wy_compiled.specs.Expressions.{released}
-use Rattle.wy_compiled.specs.Statements as spec
+use Rattle.wy_code.specs.declared.pieces.steps.Step.{Step}
+use Rattle.wy_code.specs.pieces.Steps.{jumped}
+use Rattle.wy_code_spec.specs.compiled.Expressions.{released}
+use Rattle.wy_code_spec.specs.compiled.Statements as spec
 use Rattle.wy_gen.proofs.BlockLemmas.{block_turn, block_turn_live, if_same, seen_if, seen_while, while_same, within_jumped}
 use Rattle.wy_gen.proofs.blocks.+stmt.Goals as goal
 

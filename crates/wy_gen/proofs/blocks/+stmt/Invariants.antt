@@ -1,7 +1,7 @@
 use Rattle.std.proofs.Common.{◌≡◌, ◌≤◌, ◌-◌, ◌++◌, length, drop}
 use Rattle.wy_core.specs.CoreSeen.{seen_block}
 use Rattle.wy_live.specs.Walks as lives
-use Rattle.wy_compiled.specs.Statements as spec
+use Rattle.wy_code_spec.specs.compiled.Statements as spec
 use Rattle.wy_gen.proofs.blocks.+stmt.Given as goal
 
 -- what is behind has been gone through

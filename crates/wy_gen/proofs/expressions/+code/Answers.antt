@@ -5,13 +5,13 @@ use Rattle.wy_core.specs.declared.expressions.ExprKind as kind
 use Rattle.wy_live.specs.Sets.{Variables}
 use Rattle.wy_live.specs.Walks as lives
 use Rattle.wy_core.specs.declared.expressions.Op.{Op}
-use Rattle.wy_pieces.specs.declared.steps.Step.{Step}
-use Rattle.wy_pieces.specs.declared.steps.Step.TheVariants.{GoesBack}
-use Rattle.wy_pieces.specs.Steps.{fork}
-use Rattle.wy_tables.specs.Tables.{target}
-use Rattle.wy_compiled.specs.Expressions as spec
-use Rattle.wy_compiled.specs.Operands as operands
-use Rattle.wy_compiled.proofs.StraightLemmas.{code_is_into}
+use Rattle.wy_code.specs.declared.pieces.steps.Step.{Step}
+use Rattle.wy_code.specs.declared.pieces.steps.Step.TheVariants.{GoesBack}
+use Rattle.wy_code.specs.pieces.Steps.{fork}
+use Rattle.wy_code_spec.specs.tables.Tables.{target}
+use Rattle.wy_code_spec.specs.compiled.Expressions as spec
+use Rattle.wy_code_spec.specs.compiled.Operands as operands
+use Rattle.wy_code_spec.proofs.compiled_lemmas.StraightLemmas.{code_is_into}
 use Rattle.wy_gen.proofs.ExpressionLemmas.{neg_same, not_same, len_same, is_same, field_same, binary_same, index_same, repeat_same, repeat_live, quant_same, quant_live, call_same, call_live, list_same, list_live, record_code_same, record_code_live}
 use Rattle.wy_gen.proofs.LoopLemmas.{codes_turn, codes_turn_live, field_codes_turn, field_codes_turn_live, place_back}
 use Rattle.wy_gen.proofs.PieceLemmas.{quantify_same}

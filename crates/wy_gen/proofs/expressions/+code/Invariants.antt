@@ -2,7 +2,7 @@ use Rattle.std.proofs.Common.{◌≡◌, ◌≤◌, ◌+◌, ◌++◌, length, d
 use Rattle.wy_core.specs.CoreSeen.{seen_exprs, seen_fields}
 use Rattle.wy_core.specs.CoreTree.{exprs_of}
 use Rattle.wy_live.specs.Walks as lives
-use Rattle.wy_compiled.specs.Expressions as spec
+use Rattle.wy_code_spec.specs.compiled.Expressions as spec
 use Rattle.wy_gen.proofs.expressions.+code.Given as goal
 
 -- what is behind has been gone through

@@ -1,5 +1,5 @@
 use Rattle.std.proofs.Common.{◌≡◌, List, IfOk, subst}
-use Rattle.wy_pieces.specs.declared.steps.Step.{Step}
+use Rattle.wy_code.specs.declared.pieces.steps.Step.{Step}
 use Rattle.wy_gen.proofs.PieceLemmas.{record_same}
 use Rattle.wy_gen.proofs.expressions.record.Goals as goal
 

@@ -1,9 +1,9 @@
 use Rattle.std.proofs.Common.{◌≡◌, ◌∙◌, Bool, List, ◌++◌, IfOk, ap, subst, sym, append_assoc}
 use Rattle.wy_core.specs.CoreSeen.{seen_expr}
-use Rattle.wy_pieces.specs.Steps.{jumped}
-use Rattle.wy_pieces.specs.declared.steps.Step.{Step}
-use Rattle.wy_compiled.specs.Expressions.{code, is_plain, released}
-use Rattle.wy_compiled.specs.Statements.{branches}
+use Rattle.wy_code.specs.pieces.Steps.{jumped}
+use Rattle.wy_code.specs.declared.pieces.steps.Step.{Step}
+use Rattle.wy_code_spec.specs.compiled.Expressions.{code, is_plain, released}
+use Rattle.wy_code_spec.specs.compiled.Statements.{branches}
 use Rattle.wy_gen.proofs.loops.end_choice.Goals as goal
 
 pub returns-clause-value : goal.returns-clause-value

@@ -1,10 +1,10 @@
 use Rattle.std.proofs.Common.{◌≡◌, ◌∙◌, ◌+◌, List, ◌∷◌, ◌++◌, length, ap, sym, append_assoc}
 use Rattle.wy_core.specs.CoreSeen.{seen_expr}
 use Rattle.wy_live.specs.Sets.{Variables}
-use Rattle.wy_pieces.specs.Steps.{turns}
-use Rattle.wy_pieces.specs.declared.steps.Step.{Step}
-use Rattle.wy_pieces.specs.declared.steps.Step.TheVariants.{GoesBack, GoesOnUnless}
-use Rattle.wy_compiled.specs.Expressions.{code, released}
+use Rattle.wy_code.specs.pieces.Steps.{turns}
+use Rattle.wy_code.specs.declared.pieces.steps.Step.{Step}
+use Rattle.wy_code.specs.declared.pieces.steps.Step.TheVariants.{GoesBack, GoesOnUnless}
+use Rattle.wy_code_spec.specs.compiled.Expressions.{code, released}
 use Rattle.wy_gen.proofs.loops.end_loop.Goals as goal
 
 pub returns-clause-value : goal.returns-clause-value

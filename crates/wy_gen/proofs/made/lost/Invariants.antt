@@ -1,6 +1,6 @@
 use Rattle.std.proofs.Common.{◌≡◌, ◌<◌, ◌≤◌, ◌-◌, true, length}
 use Rattle.wy_live.specs.Lost.{is_lost}
-use Rattle.wy_compiled.specs.Expressions as spec
+use Rattle.wy_code_spec.specs.compiled.Expressions as spec
 use Rattle.wy_gen.proofs.made.lost.Given as goal
 
 -- those before the variable are found, and it is lost too where it is one

@@ -2,12 +2,12 @@ use Rattle.std.proofs.Common.{◌≡◌, ◌∙◌, List, [], ◌++◌, IfOk, le
 use Rattle.std.proofs.lemmas.List.{length-map}
 use Rattle.wy_code.specs.declared.routines.Routine.{Routine}
 use Rattle.wy_core.specs.CoreSeen.{seen_block, seen_param}
-use Rattle.wy_pieces.specs.declared.steps.Step.{Step}
-use Rattle.wy_pieces.specs.Placing.{routine_of}
-use Rattle.wy_pieces.specs.Steps.{clear}
+use Rattle.wy_code.specs.declared.pieces.steps.Step.{Step}
+use Rattle.wy_code.specs.pieces.Placing.{routine_of}
+use Rattle.wy_code.specs.pieces.Steps.{clear}
 use Rattle.wy_live.specs.Walks.{live_all, nothing}
-use Rattle.wy_compiled.specs.Programs.{unused_params}
-use Rattle.wy_compiled.specs.Statements.{gives_null, stmts_code}
+use Rattle.wy_code_spec.specs.compiled.Programs.{unused_params}
+use Rattle.wy_code_spec.specs.compiled.Statements.{gives_null, stmts_code}
 use Rattle.wy_gen.proofs.RoutineLemmas.{body_steps_same}
 use Rattle.wy_gen.proofs.program.body_routine.Goals as goal
 

@@ -1,7 +1,7 @@
 use Rattle.std.proofs.Common.{◌≡◌, ◌≤◌, ◌++◌, [], length, drop}
 use Rattle.wy_core.specs.CoreSeen.{seen_exprs}
 use Rattle.wy_live.specs.Sets as sets
-use Rattle.wy_compiled.specs.Programs as spec
+use Rattle.wy_code_spec.specs.compiled.Programs as spec
 use Rattle.wy_gen.proofs.program.clauses_code.Given as goal
 
 abbrev pub invariant-loop-left : goal.invariant-loop-left

@@ -4,11 +4,11 @@ use Rattle.std.specs.List.{All}
 use Rattle.wy_code.specs.declared.routines.Code.{Code}
 use Rattle.wy_core.specs.CoreSeen.{seen_core}
 use Rattle.wy_value.specs.Shapes.{IsShapes}
-use Rattle.wy_compiled.specs.Ranges.{CallsBelow, IsFramed, IsNamed}
-use Rattle.wy_compiled.proofs.RoutineLemmas.{all_framed}
-use Rattle.wy_compiled.proofs.NamedRoutineLemmas.{all_named}
-use Rattle.wy_compiled.proofs.CallRoutineLemmas.{all_call}
-use Rattle.wy_compiled.proofs.ShapeLemmas.{core_shapes}
+use Rattle.wy_code_spec.specs.compiled.Ranges.{CallsBelow, IsFramed, IsNamed}
+use Rattle.wy_code_spec.proofs.compiled_lemmas.RoutineLemmas.{all_framed}
+use Rattle.wy_code_spec.proofs.compiled_lemmas.NamedRoutineLemmas.{all_named}
+use Rattle.wy_code_spec.proofs.compiled_lemmas.CallRoutineLemmas.{all_call}
+use Rattle.wy_code_spec.proofs.compiled_lemmas.ShapeLemmas.{core_shapes}
 use Rattle.wy_gen.proofs.program.generate.Goals as goal
 
 pub returns-clause-frames : goal.returns-clause-frames

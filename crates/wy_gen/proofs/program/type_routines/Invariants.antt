@@ -1,7 +1,7 @@
 use Rattle.std.proofs.Common.{◌≡◌, ◌++◌, drop, map}
 use Rattle.wy_core.specs.CoreSeen.{seen_decl}
 use Rattle.wy_core.specs.CoreTree.{aliases_of}
-use Rattle.wy_compiled.specs.Programs as spec
+use Rattle.wy_code_spec.specs.compiled.Programs as spec
 use Rattle.wy_gen.proofs.program.type_routines.Given as goal
 
 abbrev pub invariant-loop-decl : goal.invariant-loop-decl

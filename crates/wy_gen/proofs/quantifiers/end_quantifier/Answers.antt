@@ -1,8 +1,8 @@
 use Rattle.std.proofs.Common.{◌≡◌, ◌∙◌, ◌+◌, List, [], ◌∷◌, ◌++◌, length, ap}
 use Rattle.wy_code.specs.declared.instructions.Comparison.TheVariants as comparison
 use Rattle.wy_code.specs.declared.instructions.Instr.TheVariants as instr
-use Rattle.wy_pieces.specs.declared.steps.Step.{Step}
-use Rattle.wy_pieces.specs.declared.steps.Step.TheVariants.{Does, GoesBack, GoesOnUnless}
+use Rattle.wy_code.specs.declared.pieces.steps.Step.{Step}
+use Rattle.wy_code.specs.declared.pieces.steps.Step.TheVariants.{Does, GoesBack, GoesOnUnless}
 use Rattle.wy_gen.proofs.PieceLemmas.{number_turns_same}
 use Rattle.wy_gen.proofs.quantifiers.end_quantifier.Goals as goal
 

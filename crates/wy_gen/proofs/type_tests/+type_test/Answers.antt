@@ -1,9 +1,9 @@
 use Rattle.std.proofs.Common.{◌≡◌, ◌∙◌, List, ◌∷◌, ◌++◌, IfOk, map, suc, ap, subst, sym, arith, drop, length, append_assoc}
 use Rattle.wy_core.specs.CoreSeen.{field_tys_of, seen_ty}
 use Rattle.wy_core.specs.declared.types.TyKind as kind
-use Rattle.wy_pieces.specs.declared.steps.Step.{Step}
-use Rattle.wy_pieces.specs.declared.steps.Step.TheVariants.{GoesBack}
-use Rattle.wy_compiled.specs.TypeTests as spec
+use Rattle.wy_code.specs.declared.pieces.steps.Step.{Step}
+use Rattle.wy_code.specs.declared.pieces.steps.Step.TheVariants.{GoesBack}
+use Rattle.wy_code_spec.specs.compiled.TypeTests as spec
 use Rattle.wy_gen.proofs.LoopLemmas.{fields_turn}
 use Rattle.wy_gen.proofs.PieceLemmas.{items_same}
 use Rattle.wy_gen.proofs.TypeLemmas.{record_test_same, array_test_same, union_test_same, inter_test_same, not_test_same}

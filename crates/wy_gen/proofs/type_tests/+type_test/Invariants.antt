@@ -1,6 +1,6 @@
 use Rattle.std.proofs.Common.{◌≡◌, ◌≤◌, ◌++◌, length, drop, map}
 use Rattle.wy_core.specs.CoreSeen.{seen_ty, field_tys_of}
-use Rattle.wy_compiled.specs.TypeTests as spec
+use Rattle.wy_code_spec.specs.compiled.TypeTests as spec
 use Rattle.wy_gen.proofs.type_tests.+type_test.Given as goal
 
 -- the fields behind have been gone through

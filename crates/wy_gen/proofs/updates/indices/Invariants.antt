@@ -2,7 +2,7 @@ use Rattle.std.proofs.Common.{◌≡◌, ◌≤◌, ◌+◌, ◌++◌, length, d
 use Rattle.wy_core.specs.CoreSeen.{seen_step}
 use Rattle.wy_live.specs.Sets.{Variables}
 use Rattle.wy_live.specs.Walks as lives
-use Rattle.wy_compiled.specs.Statements as spec
+use Rattle.wy_code_spec.specs.compiled.Statements as spec
 use Rattle.wy_gen.specs.Places as reads
 use Rattle.wy_gen.proofs.updates.indices.Given as goal
 

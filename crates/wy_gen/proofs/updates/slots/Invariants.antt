@@ -1,6 +1,6 @@
 use Rattle.std.proofs.Common.{◌≡◌, ◌++◌, drop, map}
 use Rattle.wy_core.specs.CoreSeen.{seen_step}
-use Rattle.wy_compiled.specs.Statements as spec
+use Rattle.wy_code_spec.specs.compiled.Statements as spec
 use Rattle.wy_gen.proofs.updates.slots.Given as goal
 
 abbrev pub invariant-loop-step : goal.invariant-loop-step

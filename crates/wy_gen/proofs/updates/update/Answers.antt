@@ -1,6 +1,6 @@
 use Rattle.std.proofs.Common.{◌≡◌, ◌∙◌, List, IfOk, map, subst}
 use Rattle.wy_core.specs.CoreSeen.{seen_expr, seen_step}
-use Rattle.wy_pieces.specs.declared.steps.Step.{Step}
+use Rattle.wy_code.specs.declared.pieces.steps.Step.{Step}
 use Rattle.wy_gen.proofs.UpdateLemmas.{update_same}
 use Rattle.wy_gen.proofs.updates.update.Goals as goal
 

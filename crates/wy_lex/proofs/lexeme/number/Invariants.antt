@@ -1,8 +1,9 @@
 use Rattle.std.proofs.Common.{◌≡◌, ◌≤◌, ◌+◌, ◌*◌, drop, ◌&&◌, nat_le}
-use Rattle.wy_lex.specs.Kinds.{number_from, all_digits, greatest}
+use Rattle.wy_lex.specs.Kinds.{all_digits, greatest}
 use Rattle.wy_lex.specs.Grammar.{is_number}
 use Rattle.wy_lex.specs.Symbols.{codes_of}
 use Rattle.wy_lex.proofs.lexeme.number.Given as goal
+use Rattle.wy_reading.specs.ListGrammar.{number_from}
 
 -- the digits that are left complete the number
 abbrev pub invariant-loop-digit : goal.invariant-loop-digit

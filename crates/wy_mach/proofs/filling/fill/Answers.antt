@@ -2,15 +2,15 @@ use Rattle.std.proofs.Common.{◌≡◌, ◌∷◌, [], ◌<◌, ◌≤◌, leng
 use Rattle.std.specs.Int.{w128}
 use Rattle.std.proofs.lemmas.Int.{to_z-of_z}
 use mir.Val.{SFits}
+use Rattle.wy_lemmas.proofs.Options.{on_ok}
 use Rattle.wy_value.specs.declared.shapes.Shapes.{Shapes}
 use Rattle.wy_heap.specs.Nodes.{map_of}
 use Rattle.wy_code.specs.declared.instructions.Instr.TheVariants as instr
-use Rattle.wy_step.specs.Step.{effect}
+use Rattle.wy_code_spec.specs.step.Step.{effect}
 use Rattle.wy_mach.specs.Showing.{WentOn, Shows}
 use Rattle.wy_mach.specs.Operands.{Reads, number_in}
 use Rattle.wy_mach.specs.Taking.{GivesMade}
 use Rattle.wy_mach.specs.Filling.{is_length, filled}
-use Rattle.wy_mach.proofs.MakeLemmas.{on_ok}
 use Rattle.wy_mach.proofs.FillLemmas.{fill_no_number, fill_no_length, fill_beyond, fill_goes, one_taken, one_turns}
 use Rattle.wy_value.specs.Datum.{Whole}
 use Rattle.wy_heap.specs.declared.part.Part.TheVariants.{Null}

@@ -1,10 +1,11 @@
+use Rattle.wy_lemmas.proofs.Options.{on_ok}
 use Rattle.wy_value.specs.declared.shapes.Shapes.{Shapes}
 use Rattle.wy_heap.specs.Nodes.{map_of, list_form}
 use Rattle.wy_code.specs.declared.instructions.Instr.TheVariants as instr
-use Rattle.wy_step.specs.Step.{effect, gives}
+use Rattle.wy_code_spec.specs.step.Step.{effect, gives}
 use Rattle.wy_mach.specs.Showing.{WentOn}
 use Rattle.wy_mach.specs.Taking.{GivesMade, array_made, taken, emptied}
-use Rattle.wy_mach.proofs.MakeLemmas.{on_ok, are_taken, taken_turns, taken_goes, take_stops}
+use Rattle.wy_mach.proofs.MakeLemmas.{are_taken, taken_turns, taken_goes, take_stops}
 use Rattle.wy_mach.specs.Sharing.{PutsNew}
 use Rattle.wy_mach.proofs.ShareLemmas.{puts_new_as}
 use Rattle.wy_mach.proofs.making.array.Goals as goal

@@ -1,10 +1,10 @@
 use Rattle.std.proofs.Common.{ap, refl}
-use Rattle.wy_sem.specs.Expressions.{data_of}
 use Rattle.wy_mach.specs.Taking.{array_made}
 use Rattle.wy_mach.proofs.MakeLemmas.{taken_are_held, made_beside, made_turns, gives_made, refused_held, refused_turns}
 use Rattle.wy_heap.specs.Nodes.{list_form}
 use Rattle.wy_mach.proofs.ShareLemmas.{puts_new}
 use Rattle.wy_mach.proofs.making.array_of.Goals as goal
+use Rattle.wy_value.specs.Seen.{data_of}
 
 pub array-requires : goal.array-requires
 array-requires c = record { held = taken_are_held c.args.heap.now c.args.items.items c.args.registers.now c.requires.held }

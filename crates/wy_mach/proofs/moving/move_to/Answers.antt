@@ -1,7 +1,7 @@
 use Rattle.std.proofs.Common.{◌<◌, ◌≤◌, length, None, rules, refl, get_or, set}
 use Rattle.wy_heap.specs.Nodes.{map_of}
 use Rattle.wy_sem.specs.Expressions.{put, slot}
-use Rattle.wy_step.specs.Step.{gives}
+use Rattle.wy_code_spec.specs.step.Step.{gives}
 use Rattle.wy_mach.proofs.RegisterLemmas.{slot_beyond}
 use Rattle.wy_mach.proofs.NumberLemmas.{there_none}
 use Rattle.wy_mach.proofs.MoveLemmas.{taken_beside, moved_turns, moved_goes}

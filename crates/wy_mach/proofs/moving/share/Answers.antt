@@ -2,7 +2,7 @@ use Rattle.std.proofs.Common.{◌≡◌, ◌<◌, ◌≤◌, length, get_or, ref
 use Rattle.std.specs.Prelude.{Ok}
 use Rattle.wy_heap.specs.Nodes.{map_of}
 use Rattle.wy_sem.specs.Expressions.{slot}
-use Rattle.wy_step.specs.Step.{gives}
+use Rattle.wy_code_spec.specs.step.Step.{gives}
 use Rattle.wy_mach.proofs.RegisterLemmas.{read_part, slot_beyond}
 use Rattle.wy_mach.proofs.NumberLemmas.{there_none}
 use Rattle.wy_mach.proofs.MoveLemmas.{register_held, second_stands, second_beside, second_turns, shared_goes, unchanged}

@@ -5,7 +5,7 @@ use mir.Val.{SFits}
 use Rattle.wy_value.specs.Numbers.{is_int}
 use Rattle.wy_heap.specs.Nodes.{holds}
 use Rattle.wy_heap.specs.declared.part.Part.TheVariants as part
-use Rattle.wy_step.specs.Step.{Effect, computes, where_so, there}
+use Rattle.wy_code_spec.specs.step.Step.{Effect, computes, where_so, there}
 use Rattle.wy_mach.specs.Operands.{Reads, number_in}
 use Rattle.wy_mach.proofs.RegisterLemmas.{scalar_turns}
 use Rattle.wy_mach.proofs.NumberLemmas.{computed_at, result_stuck, arith_goes}

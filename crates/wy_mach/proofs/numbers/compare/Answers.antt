@@ -2,7 +2,7 @@ use Rattle.std.proofs.Common.{◌≡◌, Option, ℤ, to_z, of_z, subst, ap, ◌
 use Rattle.std.specs.Int.{w128}
 use Rattle.std.proofs.lemmas.Int.{to_z-of_z}
 use mir.Val.{SFits}
-use Rattle.wy_step.specs.Step.{compares}
+use Rattle.wy_code_spec.specs.step.Step.{compares}
 use Rattle.wy_heap.specs.Nodes.{holds}
 use Rattle.wy_heap.specs.declared.part.Part.TheVariants as part
 use Rattle.wy_mach.specs.Operands.{Reads, number_in}

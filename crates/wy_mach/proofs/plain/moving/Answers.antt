@@ -1,12 +1,12 @@
 use Rattle.std.proofs.Common.{◌≡◌, ℕ, List, sym, subst, ap, ◌∙◌}
 use Rattle.std.specs.Prelude.{OnOk, OnErr}
+use Rattle.wy_lemmas.proofs.Options.{on_ok}
 use Rattle.wy_value.specs.declared.shapes.Shapes.{Shapes}
 use Rattle.wy_heap.specs.Nodes.{map_of}
 use Rattle.wy_code.specs.declared.instructions.Instr.{Instr}
 use Rattle.wy_code.specs.declared.instructions.Instr.TheVariants as instr
-use Rattle.wy_step.specs.Step.{effect}
+use Rattle.wy_code_spec.specs.step.Step.{effect}
 use Rattle.wy_mach.specs.Showing.{WentOn, HasNone, IsNoInt}
-use Rattle.wy_mach.proofs.MakeLemmas.{on_ok}
 use Rattle.wy_mach.specs.Running.{HasInt}
 use Rattle.wy_mach.proofs.TurnLemmas.{on_err, none_moves}
 use Rattle.wy_mach.specs.SharedTurns.{SharesIn}

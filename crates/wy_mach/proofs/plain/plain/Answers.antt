@@ -1,18 +1,19 @@
 use Rattle.std.proofs.Common.{◌≡◌, ℕ, List, sym, subst, ap, ◌∙◌}
 use Rattle.std.specs.Prelude.{OnOk, IfErr, vec_capacity}
+use Rattle.wy_lemmas.proofs.Options.{on_ok, if_err}
 use Rattle.wy_value.specs.declared.shapes.Shapes.{Shapes}
 use Rattle.wy_heap.specs.Nodes.{map_of}
 use Rattle.wy_heap.specs.Extending.{Extends}
 use Rattle.wy_code.specs.declared.instructions.Slot.{Slot}
 use Rattle.wy_code.specs.declared.instructions.Instr.{Instr}
 use Rattle.wy_code.specs.declared.instructions.Instr.TheVariants as instr
-use Rattle.wy_step.specs.Step.{effect}
+use Rattle.wy_code_spec.specs.step.Step.{effect}
 use Rattle.wy_mach.specs.declared.stop.Stop.{Stop}
 use Rattle.wy_mach.specs.declared.stop.Stop.TheVariants as stop
 use Rattle.wy_mach.specs.Showing.{WentOn, IsStop}
-use Rattle.wy_mach.proofs.MakeLemmas.{on_ok, ok_pair}
+use Rattle.wy_mach.proofs.MakeLemmas.{ok_pair}
 use Rattle.wy_mach.specs.Running.{MayTakeMemory}
-use Rattle.wy_mach.proofs.TurnLemmas.{if_err, all_err, ok_of_stop, err_of_stop, not_memory, is_moving}
+use Rattle.wy_mach.proofs.TurnLemmas.{all_err, ok_of_stop, err_of_stop, not_memory, is_moving}
 use Rattle.wy_mach.specs.SharedTurns.{SharesIn, WantsIn}
 use Rattle.wy_mach.proofs.plain.plain.Goals as goal
 

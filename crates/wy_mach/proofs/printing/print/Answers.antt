@@ -1,15 +1,16 @@
 use Rattle.std.proofs.Common.{◌≡◌, ◌<◌, ◌≤◌, ℕ, List, length, refl, rules}
+use Rattle.wy_lemmas.proofs.Options.{on_ok, if_err}
 use Rattle.wy_value.specs.declared.shapes.Shapes.{Shapes}
 use Rattle.wy_heap.specs.Nodes.{map_of}
 use Rattle.wy_port.specs.Taken.{with_taken}
 use Rattle.wy_code.specs.declared.instructions.Instr.TheVariants as instr
-use Rattle.wy_step.specs.Step.{effect}
+use Rattle.wy_code_spec.specs.step.Step.{effect}
 use Rattle.wy_mach.proofs.RegisterLemmas.{read_part}
 use Rattle.wy_mach.proofs.MoveLemmas.{register_held}
 use Rattle.wy_mach.specs.declared.printing.PrintStop.{PrintStop}
 use Rattle.wy_mach.specs.Texts.{IsText}
 use Rattle.wy_mach.specs.Printed.{Prints, IsPrintStop, IsTextStop}
-use Rattle.wy_mach.proofs.PrintLemmas.{print_goes, print_beyond, print_stop, on_ok, if_err}
+use Rattle.wy_mach.proofs.PrintLemmas.{print_goes, print_beyond, print_stop}
 use Rattle.wy_mach.proofs.printing.print.Goals as goal
 
 pub returns-then-index-registers-clause-stop : goal.returns-then-index-registers-clause-stop

@@ -1,9 +1,10 @@
 use Rattle.std.proofs.Common.{◌≡◌, ◌≤◌, ℕ, List, length, take, drop, ap, ◌∙◌, arith, rules}
 use Rattle.std.proofs.lemmas.List.{take_all}
+use Rattle.wy_lemmas.proofs.Options.{on_any_err}
 use Rattle.wy_port.specs.Taken.{TookFront, with_taken}
 use Rattle.wy_mach.specs.Texts.{IsText}
 use Rattle.wy_mach.proofs.TextLemmas.{same_text}
-use Rattle.wy_mach.proofs.PrintLemmas.{piece_taken, piece_front, on_any_err}
+use Rattle.wy_mach.proofs.PrintLemmas.{piece_taken, piece_front}
 use Rattle.wy_mach.proofs.printing.write_text.Goals as goal
 
 pub gather-requires-clause-there : goal.gather-requires-clause-there

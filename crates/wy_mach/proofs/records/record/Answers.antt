@@ -1,12 +1,13 @@
 use Rattle.std.proofs.Common.{◌≡◌, ◌≢◌, ℕ, List, length, slice_get, Some, sym, ap, arith, rules}
+use Rattle.wy_lemmas.proofs.Options.{on_ok}
 use Rattle.wy_value.specs.Shapes.{named}
 use Rattle.wy_heap.specs.Nodes.{map_of}
 use Rattle.wy_code.specs.declared.instructions.Instr.TheVariants as instr
-use Rattle.wy_step.specs.Step.{effect}
+use Rattle.wy_code_spec.specs.step.Step.{effect}
 use Rattle.wy_mach.specs.Showing.{WentOn}
 use Rattle.wy_mach.specs.Taking.{GivesMade, taken, emptied}
 use Rattle.wy_mach.specs.Records.{record_made}
-use Rattle.wy_mach.proofs.MakeLemmas.{on_ok, are_taken, taken_turns}
+use Rattle.wy_mach.proofs.MakeLemmas.{are_taken, taken_turns}
 use Rattle.wy_mach.proofs.RecordLemmas.{length-taken, fields_stuck, record_stops, record_goes}
 use Rattle.wy_mach.specs.Sharing.{PutsNew, shape_form}
 use Rattle.wy_mach.proofs.ShareLemmas.{puts_new_as}

@@ -1,6 +1,6 @@
 use Rattle.std.proofs.Common.{ap, refl}
+use Rattle.wy_value.specs.Seen.{data_of}
 use Rattle.wy_value.specs.Shapes.{named}
-use Rattle.wy_sem.specs.Expressions.{data_of}
 use Rattle.wy_mach.specs.Records.{record_made}
 use Rattle.wy_mach.proofs.MakeLemmas.{taken_are_held, made_beside, made_turns, gives_made, refused_held, refused_turns}
 use Rattle.wy_mach.specs.Sharing.{shape_form}

@@ -1,6 +1,6 @@
 use Rattle.std.proofs.Common.{Bool, map, subst}
 use Rattle.wy_value.specs.Seen.{seen}
-use Rattle.wy_step.specs.Step.{State, after, start}
+use Rattle.wy_code_spec.specs.step.Step.{State, after, start}
 use Rattle.wy_mach.specs.declared.runs.RunEnd.{RunEnd}
 use Rattle.wy_mach.specs.Running.{Ran, PrintsFront, ShowsFirst, state_behind}
 use Rattle.wy_mach.proofs.TurnLemmas.{if_ok, on_err}

@@ -1,10 +1,11 @@
 use Rattle.std.proofs.Common.{◌≡◌, ◌≤◌, ◌+◌, ◌-◌, suc, refl, sym, subst, ◌∙◌, arith, rules}
-use Rattle.wy_step.specs.Step.{State, after}
+use Rattle.wy_lemmas.proofs.Options.{on_any_err}
+use Rattle.wy_code_spec.specs.step.Step.{State, after}
 use Rattle.wy_mach.specs.Running.{Turned, PrintsFront, ShowsFirst, next_in}
 use Rattle.std.specs.Prelude.{IfOk, OnErr}
 use Rattle.wy_mach.specs.Pacing.{turn_of}
 use Rattle.wy_mach.specs.declared.machine.Pace.{Pace}
-use Rattle.wy_mach.proofs.TurnLemmas.{on_any_err, no_instr}
+use Rattle.wy_mach.proofs.TurnLemmas.{no_instr}
 use Rattle.wy_mach.proofs.RunLemmas.{follows_first, follows_on, run_done, run_fault, run_front, comes_next, run_spent, rose_later}
 use Rattle.wy_mach.specs.SharedTurns.{TurnsShared}
 use Rattle.wy_mach.proofs.SharedTurnLemmas.{along_more, ends_shared}

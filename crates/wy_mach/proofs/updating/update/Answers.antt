@@ -1,15 +1,16 @@
 use Rattle.std.proofs.Common.{◌≡◌, ◌≤◌, ◌<◌, ◌∷◌, [], length, sym, subst, refl, rules, ap, set, get_or, List, arith}
+use Rattle.wy_lemmas.proofs.Options.{on_ok}
 use Rattle.wy_value.specs.declared.shapes.Shapes.{Shapes}
 use Rattle.wy_heap.specs.Nodes.{map_of}
 use Rattle.wy_heap.specs.Extending.{Extends}
 use Rattle.wy_heap.specs.Slots.{steps_of, IsPath}
 use Rattle.wy_code.specs.declared.instructions.Instr.TheVariants as instr
-use Rattle.wy_step.specs.Step.{effect}
+use Rattle.wy_code_spec.specs.step.Step.{effect}
 use Rattle.wy_mach.specs.declared.stop.Stop.{Stop}
 use Rattle.wy_mach.specs.declared.stop.Stop.TheVariants as stop
 use Rattle.wy_mach.specs.Showing.{WentOn, IsStop}
 use Rattle.wy_mach.specs.Taking.{GivesMade}
-use Rattle.wy_mach.proofs.MakeLemmas.{are_taken, taken_turns, on_ok}
+use Rattle.wy_mach.proofs.MakeLemmas.{are_taken, taken_turns}
 use Rattle.wy_mach.specs.Paths.{AreSlotsOf, written_made}
 use Rattle.wy_mach.proofs.UpdateLemmas.{two_taken, two_emptied, two_within, put_goes, put_lacks, put_beyond, whole_beyond, put_stops, on_err}
 use Rattle.wy_heap.specs.declared.part.Part.{Part}

@@ -1,7 +1,7 @@
 use Rattle.std.proofs.Common.{false, List, length, ◌∙◌, sym, ap, refl, rules, arith}
 use Rattle.wy_ast.specs.declared.statements.Stmt.{Stmt}
 use Rattle.wy_parse.specs.declared.blocks.Progress.{Progress}
-use Rattle.wy_grammar.specs.declared.measured.Measured.TheVariants.{Low}
+use Rattle.wy_parse_grammar.specs.declared.measured.Measured.TheVariants.{Low}
 use Rattle.wy_parse.proofs.OpenBlocks.{begins, block_ends, end_stops, fits_width, stops}
 use Rattle.wy_parse.proofs.blocks.statements.Goals as goal
 

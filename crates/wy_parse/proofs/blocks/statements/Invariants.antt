@@ -1,5 +1,5 @@
 use Rattle.std.proofs.Common.{◌≡◌, ◌+◌, ◌≤◌, ◌<◌, false, length}
-use Rattle.wy_grammar.specs.Trees.{none}
+use Rattle.wy_parse_grammar.specs.Trees.{none}
 use Rattle.wy_parse.specs.BlockGrammar.{width}
 use Rattle.wy_parse.specs.OpenBlocks.{going, resumed}
 use Rattle.wy_parse.proofs.blocks.statements.Given as goal

@@ -1,7 +1,7 @@
 use Rattle.std.proofs.Common.{◌≡◌, ◌-◌}
 use Rattle.wy_reading.specs.Reader.{loop}
-use Rattle.wy_grammar.specs.Sorts.{is, has}
-use Rattle.wy_grammar.specs.Sorts as t
+use Rattle.wy_parse_grammar.specs.Sorts.{is, has}
+use Rattle.wy_parse_grammar.specs.Sorts as t
 use Rattle.wy_parse.specs.ProgramReading as spec
 use Rattle.wy_parse.proofs.declarations.param_list.Given as goal
 

@@ -1,7 +1,7 @@
 use Rattle.std.proofs.Common.{◌≡◌, ◌-◌, true}
 use Rattle.wy_reading.specs.Reader.{loop}
-use Rattle.wy_grammar.specs.Sorts.{is, has}
-use Rattle.wy_grammar.specs.Sorts as t
+use Rattle.wy_parse_grammar.specs.Sorts.{is, has}
+use Rattle.wy_parse_grammar.specs.Sorts as t
 use Rattle.wy_parse.specs.StmtReading as spec
 use Rattle.wy_parse.proofs.simple.wheres.Given as goal
 

@@ -1,5 +1,5 @@
 use Rattle.std.proofs.Common.{◌≡◌, ◌∙◌, true, List, ℕ, [], subst, ap}
-use Rattle.wy_value.specs.Datum.{Datum}
+use Rattle.wy_canon.specs.wy_value.Datum.{Datum}
 use Rattle.wy_types.specs.declared.conjuncts.Signed.{Signed}
 use Rattle.wy_types.specs.Conjuncts.{with_sides}
 use Rattle.wy_types.specs.Membership.{member}

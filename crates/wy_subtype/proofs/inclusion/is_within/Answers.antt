@@ -1,6 +1,6 @@
 use Rattle.std.proofs.Common.{◌≡◌, ◌∙◌, true, List, ℕ, subst}
 use Rattle.std.proofs.lemmas.Bool.{not-true, not-false}
-use Rattle.wy_value.specs.Datum.{Datum}
+use Rattle.wy_canon.specs.wy_value.Datum.{Datum}
 use Rattle.wy_types.specs.declared.conjuncts.Signed.{Signed}
 use Rattle.wy_types.specs.Membership.{member}
 use Rattle.wy_types.specs.Shape.{part_in}

@@ -1,6 +1,6 @@
 use Rattle.std.proofs.Common.{◌≡◌, ◌+◌, ◌++◌, ◌∙◌, ℕ, List, Bool, length, drop, sym, ap, subst}
-use Rattle.wy_closure.specs.declared.clauses.Clause.{Clause}
-use Rattle.wy_closure.specs.Closure.{HaveHeads, IsReached, IsClosed}
+use Rattle.wy_graph.specs.declared.closure.clauses.Clause.{Clause}
+use Rattle.wy_graph.specs.closure.Closure.{HaveHeads, IsReached, IsClosed}
 use Rattle.wy_subtype.specs.Clausal.{part_clauses, ask_clauses}
 use Rattle.wy_subtype.specs.Marks.{part_marks, AreSound, AreClosedBy}
 use Rattle.wy_subtype.proofs.ClausalLemmas.{sound_from, closed_from, heads_within}

@@ -1,6 +1,6 @@
 use Rattle.std.proofs.Common.{◌≡◌, ◌∙◌, ◌++◌, ℕ, List, length, map, true, false, rules, subst}
-use Rattle.wy_answers.specs.Answers.{IsRefusal}
-use Rattle.wy_answers.proofs.StepLemmas.{memory_gives}
+use Rattle.wy_top_answers.specs.Answers.{IsRefusal}
+use Rattle.wy_top_answers.proofs.StepLemmas.{memory_gives}
 use Rattle.wy_top.specs.Owed.{told_by}
 use Rattle.wy_top.specs.Refusals.{invalid_lines, refusal_lines}
 use Rattle.wy_top.specs.Seen.{known}

@@ -1,10 +1,10 @@
 use Rattle.std.proofs.Common.{◌∙◌, Some, Ok, Err, subst}
-use Rattle.wy_answers.specs.Steps.{setting}
-use Rattle.wy_answers.proofs.DuringLemmas.{during_itself}
+use Rattle.wy_top_answers.specs.Steps.{setting}
+use Rattle.wy_top_answers.proofs.DuringLemmas.{during_itself}
 use Rattle.wy_top.proofs.SaveLemmas.{during_before, saves_from}
 use Rattle.wy_top.specs.Statement.{IsKeptBy}
-use Rattle.wy_words.specs.Plain.{asked_in}
-use Rattle.wy_words.specs.declared.command.Words.{Words}
+use Rattle.wy_top_words.specs.Plain.{asked_in}
+use Rattle.wy_top_words.specs.declared.command.Words.{Words}
 use Rattle.wy_top.proofs.commands.perform.Goals as goal
 
 pub returns-in-Check-clause-does : goal.returns-in-Check-clause-does

@@ -1,13 +1,13 @@
 use Rattle.std.proofs.Common.{◌≡◌, ℕ, List, Option, None, inl, inr, sym, subst}
 use Rattle.std.specs.Prelude.{IfOk}
 use Rattle.std.specs.String.{string_bytes}
-use Rattle.wy_answers.specs.Answers.{IsRefusal}
-use Rattle.wy_answers.specs.Showing.{Shown, Sinks, sinks}
-use Rattle.wy_answers.specs.Steps.{Setting, setting}
-use Rattle.wy_answers.specs.declared.answer.Answer.{Answer}
-use Rattle.wy_report.specs.Lines.{words_refused}
-use Rattle.wy_words.specs.CommandLine.{Asked, command_of}
-use Rattle.wy_words.specs.Plain.{words_in}
+use Rattle.wy_top_answers.specs.Answers.{IsRefusal}
+use Rattle.wy_top_answers.specs.Showing.{Shown, Sinks, sinks}
+use Rattle.wy_top_answers.specs.Steps.{Setting, setting}
+use Rattle.wy_top_answers.specs.declared.answer.Answer.{Answer}
+use Rattle.wy_top_answers.specs.report.Lines.{words_refused}
+use Rattle.wy_top_words.specs.CommandLine.{Asked, command_of}
+use Rattle.wy_top_words.specs.Plain.{words_in}
 use Rattle.wy_top.specs.Saves.{Saving, saving}
 use Rattle.wy_top.specs.Statement.{Comes, DoesIf, IsKeptBy, saved_name}
 use Rattle.wy_top.proofs.commands.run_words.Goals as goal

@@ -1,6 +1,6 @@
 use Rattle.std.proofs.Common.{◌≡◌, ◌<◌, ℕ, length, map, take}
 use Rattle.wy_cert.specs.Steps.{certificates_of}
-use Rattle.wy_certifying.specs.Carried.{IsCarried}
+use Rattle.wy_prove.specs.Carried.{IsCarried}
 use Rattle.wy_term.specs.Condition.{condition_of}
 use Rattle.wy_term.specs.Nodes.{tree_at}
 use Rattle.wy_top.specs.Judged.{AreJudged}

@@ -1,7 +1,7 @@
 use Rattle.std.specs.Prelude.{Option}
 use Rattle.std.proofs.Common.{subst}
 use Rattle.wy_cert.specs.declared.step.Cert.{Cert}
-use Rattle.wy_certifying.specs.Answers.{AnswersWhatIsFound}
+use Rattle.wy_prove.specs.Answers.{AnswersWhatIsFound}
 use Rattle.wy_term.specs.Condition.{condition_of}
 use Rattle.wy_top.proofs.FoundLemmas.{named_more}
 use Rattle.wy_top.proofs.found.with_certified.Goals as goal

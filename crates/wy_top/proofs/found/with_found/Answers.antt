@@ -1,5 +1,5 @@
 use Rattle.std.proofs.Common.{◌≡◌, None, true, refl, subst, sym}
-use Rattle.wy_certifying.specs.Answers.{AnswersWhatIsFound}
+use Rattle.wy_prove.specs.Answers.{AnswersWhatIsFound}
 use Rattle.wy_term.specs.Condition.{condition_of}
 use Rattle.wy_top.specs.Known.{is_found}
 use Rattle.wy_top.specs.Seen.{seen_end}

@@ -1,6 +1,6 @@
 use Rattle.std.proofs.Common.{◌∙◌, List, length, map, refl, ap, subst}
 use Rattle.wy_cert.specs.Steps.{certificates_of}
-use Rattle.wy_shown_conditions.specs.Certified.{AreFormed}
+use Rattle.wy_top_answers.specs.wy_vc_laws.shown.Certified.{AreFormed}
 use Rattle.wy_term.specs.Condition.{Condition, condition_of}
 use Rattle.wy_term.specs.declared.cond.Cond.{Cond}
 use Rattle.wy_top.specs.Known.{AreKnown}

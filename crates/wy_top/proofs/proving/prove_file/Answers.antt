@@ -1,9 +1,9 @@
 use Rattle.std.proofs.Common.{ℕ, List, subst}
 use Rattle.std.proofs.lemmas.Result.{IfOk-weaker}
 use Rattle.std.specs.Prelude.{IfOk}
-use Rattle.wy_answers.specs.Loading.{loaded, source_limit}
-use Rattle.wy_answers.specs.Steps.{both, came, Gives}
-use Rattle.wy_answers.proofs.StepLemmas.{goes, ends_there, stated_value}
+use Rattle.wy_top_answers.specs.Loading.{loaded, source_limit}
+use Rattle.wy_top_answers.specs.Steps.{both, came, Gives}
+use Rattle.wy_top_answers.proofs.StepLemmas.{goes, ends_there, stated_value}
 use Rattle.wy_top.specs.Kept.{answer_in}
 use Rattle.wy_top.specs.Proofs.{Proves, ProvesBytes, proves_source}
 use Rattle.wy_top.specs.declared.proving.Proof.{Proof}

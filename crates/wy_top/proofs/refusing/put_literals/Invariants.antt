@@ -1,5 +1,5 @@
 use Rattle.std.proofs.Common.{◌≡◌, ◌++◌, drop, map}
-use Rattle.wy_judging.specs.Seen.{seen_literal}
+use Rattle.wy_prove.specs.wy_check_nodes.Seen.{seen_literal}
 use Rattle.wy_top.specs.Refusals.{literal_lines}
 use Rattle.wy_term.specs.Nodes.{tree_at}
 use Rattle.wy_top.proofs.refusing.put_literals.Given as goal

@@ -1,8 +1,8 @@
 use Rattle.std.proofs.Common.{◌∙◌, ◌++◌, ℕ, List, Bool, map, ap}
 use Rattle.std.proofs.lemmas.Result.{on_ok_weaker}
-use Rattle.wy_front.specs.Places.{place_of}
-use Rattle.wy_judging.specs.Seen.{seen_literal}
-use Rattle.wy_certifying.specs.Seen.{seen_why}
+use Rattle.wy_parse_front.specs.Places.{place_of}
+use Rattle.wy_prove.specs.wy_check_nodes.Seen.{seen_literal}
+use Rattle.wy_prove.specs.Seen.{seen_why}
 use Rattle.wy_term.specs.Condition.{word_of}
 use Rattle.wy_term.specs.Nodes.{tree_at}
 use Rattle.wy_top.specs.Refusals.{literal_lines, why_word}

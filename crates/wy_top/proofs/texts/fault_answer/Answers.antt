@@ -1,5 +1,5 @@
 use Rattle.std.proofs.Common.{◌∙◌, Bool, sym, subst}
-use Rattle.wy_answers.specs.Calls.{AnswersFault}
+use Rattle.wy_top_answers.specs.Calls.{AnswersFault}
 use Rattle.wy_top.specs.Texts.{fault_lines}
 use Rattle.wy_top.proofs.texts.fault_answer.Goals as goal
 

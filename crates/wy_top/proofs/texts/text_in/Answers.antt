@@ -1,7 +1,7 @@
 use Rattle.std.proofs.Common.{ℕ, List, subst}
-use Rattle.wy_answers.specs.Loading.{loaded, source_limit}
-use Rattle.wy_answers.specs.Steps.{Gives, both}
-use Rattle.wy_answers.proofs.StepLemmas.{goes, ends_there}
+use Rattle.wy_top_answers.specs.Loading.{loaded, source_limit}
+use Rattle.wy_top_answers.specs.Steps.{Gives, both}
+use Rattle.wy_top_answers.proofs.StepLemmas.{goes, ends_there}
 use Rattle.wy_top.specs.Texts.{text}
 use Rattle.wy_top.proofs.texts.text_in.Goals as goal
 

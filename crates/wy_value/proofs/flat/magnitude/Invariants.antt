@@ -1,6 +1,6 @@
 use Rattle.std.proofs.Common.{◌≡◌, ◌≤◌, ◌+◌, ◌*◌, drop}
+use Rattle.wy_reading.specs.ListGrammar.{number_from}
 use Rattle.wy_value.specs.declared.flat.TheConstants.{FARTHEST}
-use Rattle.wy_value.specs.Numbers.{number_from}
 use Rattle.wy_value.proofs.flat.magnitude.Given as goal
 
 -- the digits that are left complete the number

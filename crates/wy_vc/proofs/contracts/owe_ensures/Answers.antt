@@ -1,13 +1,13 @@
 use Rattle.std.proofs.Common.{◌≡◌, List, ℕ, Option, length, subst, sym, rules}
-use Rattle.wy_conditions.specs.Numbered.{numbered_list, numbered_routine}
-use Rattle.wy_conditions.specs.Programs.{ensures_conditions, enter_result}
+use Rattle.wy_vc_spec.specs.Numbered.{numbered_list, numbered_routine}
+use Rattle.wy_vc_spec.specs.Programs.{ensures_conditions, enter_result}
 use Rattle.wy_core.specs.CoreSeen.{seen_exprs, seen_output, seen_routine}
 use Rattle.wy_core.specs.declared.expressions.Expr as e
-use Rattle.wy_vc_actions.specs.Frames.{program_of}
-use Rattle.wy_vc_names.specs.Described.{setting}
-use Rattle.wy_vc_expressions.specs.Slots.{AreSlots, slots_of}
-use Rattle.wy_vc_expressions.specs.State.{hyps_of}
-use Rattle.wy_vc_expressions.proofs.ResultLemmas.{on_ok}
+use Rattle.wy_vc_body.specs.Frames.{program_of}
+use Rattle.wy_vc_tables.specs.program_names.Described.{setting}
+use Rattle.wy_vc_exprs.specs.Slots.{AreSlots, slots_of}
+use Rattle.wy_vc_exprs.specs.State.{hyps_of}
+use Rattle.wy_vc_exprs.proofs.ResultLemmas.{on_ok}
 use Rattle.wy_vc.specs.Entering.{Enters, Owes}
 use Rattle.wy_vc.proofs.OwingLemmas.{ensures_owe, no_ensures}
 use Rattle.wy_vc.proofs.contracts.owe_ensures.Goals as goal

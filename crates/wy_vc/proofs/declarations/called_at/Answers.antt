@@ -1,6 +1,6 @@
 use Rattle.std.proofs.Common.{refl, ◌∙◌, ap}
 use Rattle.wy_core.specs.CoreSeen.{seen_exprs}
-use Rattle.wy_conditions.specs.Sizes.{exprs_in_list}
+use Rattle.wy_vc_spec.specs.Sizes.{exprs_in_list}
 use Rattle.wy_vc.proofs.DeclarationLemmas.{called_here}
 use Rattle.wy_vc.proofs.declarations.called_at.Goals as goal
 

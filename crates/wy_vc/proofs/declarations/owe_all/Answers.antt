@@ -1,4 +1,4 @@
-use Rattle.wy_vc_actions.specs.Frames.{program_of}
+use Rattle.wy_vc_body.specs.Frames.{program_of}
 use Rattle.wy_vc.proofs.DeclarationLemmas.{owing_begin, owing_end, owing_enough, owing_turn}
 use Rattle.wy_vc.proofs.declarations.owe_all.Goals as goal
 

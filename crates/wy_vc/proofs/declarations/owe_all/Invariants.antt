@@ -1,8 +1,8 @@
 use Rattle.std.proofs.Common.{drop, map}
 use Rattle.wy_core.specs.CoreSeen.{seen_decl}
-use Rattle.wy_conditions.specs.Numbered.{numbered_decls}
-use Rattle.wy_conditions.specs.Programs.{decls_conditions}
-use Rattle.wy_vc_actions.specs.Frames.{program_of}
+use Rattle.wy_vc_spec.specs.Numbered.{numbered_decls}
+use Rattle.wy_vc_spec.specs.Programs.{decls_conditions}
+use Rattle.wy_vc_body.specs.Frames.{program_of}
 use Rattle.wy_vc.proofs.DeclarationLemmas.{IsOwing}
 use Rattle.wy_vc.proofs.declarations.owe_all.Given as goal
 

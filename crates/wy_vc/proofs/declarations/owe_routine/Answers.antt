@@ -1,10 +1,10 @@
 use Rattle.std.proofs.Common.{sym, subst}
 use Rattle.wy_core.specs.CoreSeen.{seen_routine}
 use Rattle.wy_core.specs.CoreTree as tree
-use Rattle.wy_conditions.specs.Numbered.{Node, numbered_routine}
-use Rattle.wy_conditions.specs.Programs.{body_conditions, contract_conditions}
-use Rattle.wy_vc_actions.specs.Frames.{program_of}
-use Rattle.wy_vc_names.specs.Described.{IsCalled}
+use Rattle.wy_vc_spec.specs.Numbered.{Node, numbered_routine}
+use Rattle.wy_vc_spec.specs.Programs.{body_conditions, contract_conditions}
+use Rattle.wy_vc_body.specs.Frames.{program_of}
+use Rattle.wy_vc_tables.specs.program_names.Described.{IsCalled}
 use Rattle.wy_vc.specs.Entering.{Owes}
 use Rattle.wy_vc.proofs.DeclarationLemmas.{next_routine}
 use Rattle.wy_vc.proofs.OwingLemmas.{owes_then}

@@ -1,12 +1,12 @@
 use Rattle.std.proofs.Common.{List, ℕ, Option, refl, sym, subst}
 use Rattle.wy_core.specs.CoreSeen.{seen_param}
 use Rattle.wy_vc_operations.specs.Growing.{AreSlotsAt}
-use Rattle.wy_vc_names.specs.Described.{setting}
-use Rattle.wy_vc_expressions.specs.Slots.{slots_of}
-use Rattle.wy_vc_expressions.specs.declared.walk.Walk.{Walk}
-use Rattle.wy_vc_expressions.proofs.ResultLemmas.{on_ok}
-use Rattle.wy_vc_expressions.proofs.SlotLemmas.{slots_itself}
-use Rattle.wy_vc_expressions.proofs.StateLemmas.{sound_made}
+use Rattle.wy_vc_tables.specs.program_names.Described.{setting}
+use Rattle.wy_vc_exprs.specs.Slots.{slots_of}
+use Rattle.wy_vc_exprs.specs.declared.walk.Walk.{Walk}
+use Rattle.wy_vc_exprs.proofs.ResultLemmas.{on_ok}
+use Rattle.wy_vc_exprs.proofs.SlotLemmas.{slots_itself}
+use Rattle.wy_vc_exprs.proofs.StateLemmas.{sound_made}
 use Rattle.wy_vc.proofs.EntryLemmas.{param_typed}
 use Rattle.wy_vc.proofs.entry.assume_param.Goals as goal
 

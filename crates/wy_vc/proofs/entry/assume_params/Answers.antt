@@ -1,4 +1,4 @@
-use Rattle.wy_vc_names.specs.Described.{setting}
+use Rattle.wy_vc_tables.specs.program_names.Described.{setting}
 use Rattle.wy_vc.proofs.EntryLemmas.{typing_turn}
 use Rattle.wy_vc.proofs.entry.assume_params.Goals as goal
 

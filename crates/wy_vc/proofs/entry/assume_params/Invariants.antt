@@ -1,6 +1,6 @@
 use Rattle.std.proofs.Common.{drop}
-use Rattle.wy_vc_actions.specs.Paths.{spot_of}
-use Rattle.wy_vc_names.specs.Described.{setting}
+use Rattle.wy_vc_body.specs.Paths.{spot_of}
+use Rattle.wy_vc_tables.specs.program_names.Described.{setting}
 use Rattle.wy_vc.proofs.EntryLemmas.{IsEntering, typing}
 use Rattle.wy_vc.proofs.entry.assume_params.Given as goal
 

@@ -1,4 +1,4 @@
-use Rattle.wy_vc_names.specs.Described.{setting}
+use Rattle.wy_vc_tables.specs.program_names.Described.{setting}
 use Rattle.wy_vc.proofs.EntryLemmas.{entered, no_slots}
 use Rattle.wy_vc.proofs.entry.enter.Goals as goal
 

@@ -1,12 +1,12 @@
 use Rattle.std.proofs.Common.{Option, subst, sym}
-use Rattle.wy_conditions.specs.Numbered.{numbered_routine}
-use Rattle.wy_conditions.specs.Programs.{enter_result}
+use Rattle.wy_vc_spec.specs.Numbered.{numbered_routine}
+use Rattle.wy_vc_spec.specs.Programs.{enter_result}
 use Rattle.wy_core.specs.CoreSeen.{seen_output, seen_routine}
 use Rattle.wy_core.specs.declared.declarations.Output.{Output}
-use Rattle.wy_vc_names.specs.Described.{setting}
-use Rattle.wy_vc_expressions.specs.Slots.{slots_of}
-use Rattle.wy_vc_expressions.specs.State.{hyps_of}
-use Rattle.wy_vc_expressions.proofs.ResultLemmas.{on_ok}
+use Rattle.wy_vc_tables.specs.program_names.Described.{setting}
+use Rattle.wy_vc_exprs.specs.Slots.{slots_of}
+use Rattle.wy_vc_exprs.specs.State.{hyps_of}
+use Rattle.wy_vc_exprs.proofs.ResultLemmas.{on_ok}
 use Rattle.wy_vc.specs.Entering.{Enters}
 use Rattle.wy_vc.proofs.EntryLemmas.{nothing_entered}
 use Rattle.wy_vc.proofs.entry.enter_result.Goals as goal

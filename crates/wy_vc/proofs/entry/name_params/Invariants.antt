@@ -1,5 +1,5 @@
 use Rattle.std.proofs.Common.{drop}
-use Rattle.wy_vc_actions.specs.Paths.{spot_of}
+use Rattle.wy_vc_body.specs.Paths.{spot_of}
 use Rattle.wy_vc.proofs.EntryLemmas.{IsEntering, naming}
 use Rattle.wy_vc.proofs.entry.name_params.Given as goal
 

@@ -1,13 +1,13 @@
 use Rattle.std.proofs.Common.{◌+◌, ◌∙◌, List, Option, ℕ, sym, ap, subst}
 use Rattle.wy_core.specs.CoreSeen.{seen_block, seen_expr, seen_exprs}
-use Rattle.wy_conditions.specs.Numbered.{numbered, numbered_block, numbered_list}
-use Rattle.wy_conditions.specs.Sizes.{exprs_in}
-use Rattle.wy_vc_actions.specs.Frames.{body_at}
-use Rattle.wy_vc_actions.proofs.FrameLemmas.{frame_on}
-use Rattle.wy_vc_actions.specs.Paths.{spot_of}
-use Rattle.wy_vc_expressions.specs.Slots.{AreSlots}
-use Rattle.wy_vc_expressions.proofs.ResultLemmas.{if_ok}
-use Rattle.wy_vc_expressions.proofs.SlotLemmas.{slots_on}
+use Rattle.wy_vc_spec.specs.Numbered.{numbered, numbered_block, numbered_list}
+use Rattle.wy_vc_spec.specs.Sizes.{exprs_in}
+use Rattle.wy_vc_body.specs.Frames.{body_at}
+use Rattle.wy_vc_body.proofs.FrameLemmas.{frame_on}
+use Rattle.wy_vc_body.specs.Paths.{spot_of}
+use Rattle.wy_vc_exprs.specs.Slots.{AreSlots}
+use Rattle.wy_vc_exprs.proofs.ResultLemmas.{if_ok}
+use Rattle.wy_vc_exprs.proofs.SlotLemmas.{slots_on}
 use Rattle.wy_vc.specs.Heads.{Enters, entered}
 use Rattle.wy_vc.proofs.HeadLemmas.{begins_from}
 use Rattle.wy_vc.proofs.heads.begin_loop.Goals as goal

@@ -1,5 +1,5 @@
 use Rattle.wy_core.specs.CoreSeen.{seen_expr}
-use Rattle.wy_conditions.specs.Numbered.{numbered}
+use Rattle.wy_vc_spec.specs.Numbered.{numbered}
 use Rattle.wy_vc.proofs.HeadLemmas.{renewed_sound, tested_from}
 use Rattle.wy_vc.proofs.heads.test_at.Goals as goal
 

@@ -1,5 +1,5 @@
 use Rattle.std.proofs.Common.{◌≤◌, ℕ, List, [], inl, inr, length, refl, subst, ◌∙◌, rules}
-use Rattle.wy_conditions.specs.Limits.{most_terms}
+use Rattle.wy_vc_spec.specs.Limits.{most_terms}
 use Rattle.wy_vc.specs.Gathered.{AreGathered}
 use Rattle.wy_vc.proofs.SeenLemmas.{roots_below}
 use Rattle.wy_vc.proofs.limits.bounded.Goals as goal

@@ -1,5 +1,5 @@
 use Rattle.std.proofs.Common.{◌≡◌, ℕ, List, length, nat_lt, take, refl, sym, ◌∙◌, ap, rules}
-use Rattle.wy_conditions.specs.Limits as limits
+use Rattle.wy_vc_spec.specs.Limits as limits
 use Rattle.wy_vc.proofs.SeenLemmas.{HasCounted, cond_at, passing_begin, passing_end, passing_large, passing_many, passing_turn}
 use Rattle.wy_vc.proofs.limits.first_limit.Goals as goal
 

@@ -1,7 +1,7 @@
-use Rattle.wy_conditions.specs.Numbered.{numbered_core}
-use Rattle.wy_conditions.specs.Programs.{decls_conditions}
+use Rattle.wy_vc_spec.specs.Numbered.{numbered_core}
+use Rattle.wy_vc_spec.specs.Programs.{decls_conditions}
 use Rattle.wy_core.specs.CoreSeen.{seen_core}
-use Rattle.wy_vc_actions.specs.Frames.{program_of}
+use Rattle.wy_vc_body.specs.Frames.{program_of}
 use Rattle.wy_vc.proofs.ConditionLemmas.{cut_first, cut_sound}
 use Rattle.wy_vc.proofs.listing.owed.Goals as goal
 

@@ -1,6 +1,6 @@
 use Rattle.std.proofs.Common.{◌≡◌, drop, map}
 use Rattle.wy_core.specs.CoreSeen.{conjuncts_of, seen_conjunct}
-use Rattle.wy_conditions.specs.Named.{all_numbers}
+use Rattle.wy_vc_spec.specs.Named.{all_numbers}
 use Rattle.wy_vc.proofs.numbers.are_whole.Given as goal
 
 -- those passed are of numbers

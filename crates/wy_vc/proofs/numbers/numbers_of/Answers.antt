@@ -1,5 +1,5 @@
 use Rattle.wy_core.specs.CoreSeen.{seen_ty}
-use Rattle.wy_typing.specs.TypedPrograms.{flow_of}
+use Rattle.wy_flow_spec.specs.typing.TypedPrograms.{flow_of}
 use Rattle.wy_vc.proofs.NumberLemmas.{mapped_push}
 use Rattle.wy_vc.proofs.numbers.numbers_of.Goals as goal
 

@@ -1,6 +1,6 @@
 use Rattle.std.proofs.Common.{◌≡◌, map, take}
-use Rattle.wy_conditions.specs.Named.{is_number_type}
-use Rattle.wy_typing.specs.TypedPrograms.{flow_of}
+use Rattle.wy_vc_spec.specs.Named.{is_number_type}
+use Rattle.wy_flow_spec.specs.typing.TypedPrograms.{flow_of}
 use Rattle.wy_vc.proofs.numbers.numbers_of.Given as goal
 
 -- the marks so far

@@ -1,5 +1,5 @@
 use Rattle.wy_vc.proofs.NumberLemmas.{setting_if}
-use Rattle.wy_typing.specs.TypedPrograms.{flow_of}
+use Rattle.wy_flow_spec.specs.typing.TypedPrograms.{flow_of}
 use Rattle.wy_vc.proofs.program.typed_program.Goals as goal
 
 pub returns-clause-setting : goal.returns-clause-setting

@@ -2,11 +2,11 @@ use Rattle.std.proofs.Common.{Option, Some, sym, subst}
 use Rattle.wy_core.specs.CoreSeen.{seen_option, seen_ty}
 use Rattle.wy_core.specs.CoreTree as tree
 use Rattle.wy_core.specs.declared.expressions.Expr as e
-use Rattle.wy_conditions.specs.Numbered.{numbered_option}
-use Rattle.wy_conditions.specs.Statements as spec
-use Rattle.wy_vc_actions.specs.Frames.{body_at}
-use Rattle.wy_vc_actions.specs.Going.{Went}
-use Rattle.wy_vc_actions.specs.Paths.{spot_of}
+use Rattle.wy_vc_spec.specs.Numbered.{numbered_option}
+use Rattle.wy_vc_spec.specs.Statements as spec
+use Rattle.wy_vc_body.specs.Frames.{body_at}
+use Rattle.wy_vc_body.specs.Going.{Went}
+use Rattle.wy_vc_body.specs.Paths.{spot_of}
 use Rattle.wy_vc.proofs.simple.declare.Goals as goal
 
 pub returns-in_ok-here-in-Some-clause-value : goal.returns-in_ok-here-in-Some-clause-value

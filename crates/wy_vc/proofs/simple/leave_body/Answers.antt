@@ -2,11 +2,11 @@ use Rattle.std.proofs.Common.{Option, None, sym, subst}
 use Rattle.wy_core.specs.CoreSeen.{seen_option}
 use Rattle.wy_core.specs.CoreTree as tree
 use Rattle.wy_core.specs.declared.expressions.Expr as e
-use Rattle.wy_conditions.specs.Numbered.{numbered_option}
-use Rattle.wy_conditions.specs.Statements as spec
-use Rattle.wy_vc_actions.specs.Frames.{body_at}
-use Rattle.wy_vc_actions.specs.Going.{Went}
-use Rattle.wy_vc_actions.specs.Paths.{spot_of}
+use Rattle.wy_vc_spec.specs.Numbered.{numbered_option}
+use Rattle.wy_vc_spec.specs.Statements as spec
+use Rattle.wy_vc_body.specs.Frames.{body_at}
+use Rattle.wy_vc_body.specs.Going.{Went}
+use Rattle.wy_vc_body.specs.Paths.{spot_of}
 use Rattle.wy_vc.proofs.simple.leave_body.Goals as goal
 
 pub returns-clause-value : goal.returns-clause-value

@@ -1,6 +1,6 @@
 use Rattle.std.proofs.Common.{[], refl}
-use Rattle.wy_vc_expressions.specs.declared.walk.Walk.{Walk}
-use Rattle.wy_vc_expressions.proofs.StateLemmas.{sound_made}
+use Rattle.wy_vc_exprs.specs.declared.walk.Walk.{Walk}
+use Rattle.wy_vc_exprs.proofs.StateLemmas.{sound_made}
 use Rattle.wy_vc.proofs.SimpleLemmas.{never_went, none_at}
 use Rattle.wy_vc.proofs.simple.never.Goals as goal
 

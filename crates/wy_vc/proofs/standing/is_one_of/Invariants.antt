@@ -1,5 +1,5 @@
 use Rattle.std.proofs.Common.{◌≡◌, drop}
-use Rattle.wy_conditions.specs.Limits.{is_among}
+use Rattle.wy_vc_spec.specs.Limits.{is_among}
 use Rattle.wy_vc.proofs.standing.is_one_of.Given as goal
 
 abbrev pub invariant-loop-one : goal.invariant-loop-one

@@ -1,5 +1,5 @@
 use Rattle.std.proofs.Common.{◌≡◌, ◌∙◌, ◌++◌, ◌∷◌, [], ℕ, List, sym, ap, rules}
-use Rattle.wy_conditions.specs.Limits.{is_among}
+use Rattle.wy_vc_spec.specs.Limits.{is_among}
 use Rattle.wy_vc.proofs.StandingLemmas.{joined_known, joined_new}
 use Rattle.wy_vc.proofs.standing.put_new.Goals as goal
 

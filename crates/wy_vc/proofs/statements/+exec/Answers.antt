@@ -3,27 +3,28 @@ use Rattle.wy_core.specs.CoreSeen.{seen_block, seen_expr, seen_exprs, seen_optio
 use Rattle.wy_core.specs.CoreTree as tree
 use Rattle.wy_core.specs.declared.statements.Stmt as st
 use Rattle.std.proofs.lemmas.Grind.{common_steps}
-use Rattle.wy_conditions.specs.Numbered.{numbered_option, numbered_stmt}
-use Rattle.wy_conditions.specs.Statements as spec
-use Rattle.wy_vc_actions.specs.declared.here.Here.{Here}
+use Rattle.wy_vc_spec.specs.Numbered.{numbered_option, numbered_stmt}
+use Rattle.wy_vc_spec.specs.Statements as spec
+use Rattle.wy_vc_body.specs.declared.here.Here.{Here}
 use Rattle.wy_vc.specs.Flows.{Flows}
-use Rattle.wy_conditions.specs.Sizes.{exprs_in, exprs_in_all, exprs_in_block, exprs_in_list, exprs_in_option, exprs_in_path, exprs_in_stmt}
-use Rattle.wy_vc_actions.specs.Frames.{body_at}
-use Rattle.wy_vc_actions.proofs.FrameLemmas.{frame_on}
-use Rattle.wy_vc_actions.proofs.PathLemmas.{paths_on}
-use Rattle.wy_vc_actions.specs.Paths.{spot_of}
-use Rattle.wy_vc_actions.proofs.LessLemmas.{body_falls, first_falls, second_falls}
-use Rattle.wy_vc_actions.proofs.SeenLemmas.{seen_assert, seen_break, seen_continue, seen_declare, seen_fail, seen_return, seen_skip}
-use Rattle.wy_vc_expressions.specs.Slots.{AreSlots}
-use Rattle.wy_vc_expressions.proofs.NumberedLemmas.{here_kept, kept_then}
-use Rattle.wy_vc_expressions.proofs.ResultLemmas.{if_ok, on_ok}
-use Rattle.wy_vc_expressions.proofs.SlotLemmas.{slots_on}
+use Rattle.wy_vc_spec.specs.Sizes.{exprs_in, exprs_in_all, exprs_in_block, exprs_in_list, exprs_in_option, exprs_in_path, exprs_in_stmt}
+use Rattle.wy_vc_body.specs.Frames.{body_at}
+use Rattle.wy_vc_body.proofs.FrameLemmas.{frame_on}
+use Rattle.wy_vc_body.proofs.PathLemmas.{paths_on}
+use Rattle.wy_vc_body.specs.Paths.{spot_of}
+use Rattle.wy_vc_body.proofs.LessLemmas.{body_falls, first_falls, second_falls}
+use Rattle.wy_vc_body.proofs.SeenLemmas.{seen_assert, seen_break, seen_continue, seen_declare, seen_fail, seen_return, seen_skip}
+use Rattle.wy_vc_exprs.specs.Slots.{AreSlots}
+use Rattle.wy_vc_exprs.proofs.NumberedLemmas.{kept_then}
+use Rattle.wy_vc_exprs.proofs.ResultLemmas.{if_ok, on_ok}
+use Rattle.wy_vc_exprs.proofs.SlotLemmas.{slots_on}
 use Rattle.wy_vc.specs.Rounds.{around}
 use Rattle.wy_vc.proofs.CycleLemmas.{as_form, declare_breaks, fork_base, fork_on, form_node, if_at, if_node, quiet_value, return_breaks, round_on, skipped, turn_base, turn_on, while_at, while_node}
 use Rattle.wy_vc.proofs.EndLemmas.{end_are}
 use Rattle.wy_vc.proofs.FlowLemmas.{node_end, node_stop, within_begin, within_end, within_stop, within_turn}
 use Rattle.wy_vc.proofs.FormLemmas.{assign_of, call_of, if_of, while_of}
 use Rattle.wy_vc.proofs.statements.+exec.Goals as goal
+use Rattle.wy_vc_operations.proofs.GrowingLemmas.{here_kept}
 
 pub exec-returns-in-Declare-clause-value : goal.exec-returns-in-Declare-clause-value
 exec-returns-in-Declare-clause-value t c =

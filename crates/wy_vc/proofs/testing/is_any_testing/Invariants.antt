@@ -1,5 +1,5 @@
 use Rattle.std.proofs.Common.{◌≡◌, ℕ, true, false, get_or, take}
-use Rattle.wy_conditions.specs.Limits.{is_among}
+use Rattle.wy_vc_spec.specs.Limits.{is_among}
 use Rattle.wy_vc.proofs.testing.is_any_testing.Given as goal
 
 abbrev pub invariant-loop-number : goal.invariant-loop-number

@@ -1,6 +1,6 @@
 use Rattle.std.proofs.Common.{◌≡◌, ◌∙◌, ℕ, true, List, None, subst, sym}
 use Rattle.wy_term.specs.Nodes.{plain}
-use Rattle.wy_conditions.specs.Limits.{is_among}
+use Rattle.wy_vc_spec.specs.Limits.{is_among}
 use Rattle.wy_vc.specs.Tested.{type_of}
 use Rattle.wy_vc.proofs.TestedLemmas.{none_of, quiet_term}
 use Rattle.wy_vc.proofs.testing.tests_any.Goals as goal

@@ -1,5 +1,5 @@
 use Rattle.std.proofs.Common.{refl}
-use Rattle.wy_vc_names.specs.Described.{setting}
+use Rattle.wy_vc_tables.specs.program_names.Described.{setting}
 use Rattle.wy_vc.proofs.MeaningLemmas.{meaning_made}
 use Rattle.wy_vc.proofs.unfolding.meaning_of.Goals as goal
 

@@ -1,4 +1,4 @@
-use Rattle.wy_vc_names.specs.Described.{setting}
+use Rattle.wy_vc_tables.specs.program_names.Described.{setting}
 use Rattle.wy_vc.proofs.MeaningLemmas.{up_to_begin, up_to_turn}
 use Rattle.wy_vc.proofs.unfolding.meanings.Goals as goal
 

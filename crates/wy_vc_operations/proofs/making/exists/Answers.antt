@@ -1,5 +1,5 @@
 use Rattle.std.proofs.Common.{ℕ, List, IfOk, subst, true, false}
-use Rattle.wy_conditions.specs.Making as made
+use Rattle.wy_vc_spec.specs.Making as made
 use Rattle.wy_vc_operations.specs.Growing.{Makes}
 use Rattle.wy_term.specs.Term as term
 use Rattle.wy_vc_operations.proofs.GrowingLemmas.{by_three}

@@ -1,7 +1,7 @@
 use Rattle.std.proofs.Common.{ℕ, List, map, IfOk, subst}
 use Rattle.wy_term.specs.Term as term
 use Rattle.wy_term.specs.Term.{Term}
-use Rattle.wy_conditions.specs.Operations as op
+use Rattle.wy_vc_spec.specs.Operations as op
 use Rattle.wy_vc_operations.specs.Growing.{Makes}
 use Rattle.wy_vc_operations.proofs.GrowingLemmas.{by_all}
 use Rattle.wy_vc_operations.proofs.making.record.Goals as goal

@@ -1,5 +1,5 @@
 use Rattle.std.proofs.Common.{Bool, IfOk, subst, sym}
-use Rattle.wy_conditions.specs.Making as made
+use Rattle.wy_vc_spec.specs.Making as made
 use Rattle.wy_vc_operations.specs.Growing.{Makes}
 use Rattle.wy_vc_operations.proofs.operations.bound.Goals as goal
 

@@ -1,6 +1,6 @@
 use Rattle.std.proofs.Common.{IfOk, subst, sym}
 use Rattle.wy_core.specs.declared.expressions.Op.{Op}
-use Rattle.wy_conditions.specs.Operations as spec
+use Rattle.wy_vc_spec.specs.Operations as spec
 use Rattle.wy_vc_operations.specs.Growing.{Makes}
 use Rattle.wy_vc_operations.proofs.operations.operated.Goals as goal
 

@@ -1,7 +1,7 @@
 use Rattle.std.proofs.Common.{ℤ, subst}
 use Rattle.std.specs.Int.{w128}
 use Rattle.std.proofs.lemmas.Int.{to_z-of_z}
-use Rattle.wy_conditions.specs.Making as made
+use Rattle.wy_vc_spec.specs.Making as made
 use Rattle.wy_vc_operations.specs.Growing.{Makes}
 use Rattle.wy_vc_operations.proofs.GrowingLemmas.{onward_if}
 use Rattle.wy_vc_operations.proofs.operations.whole.Goals as goal

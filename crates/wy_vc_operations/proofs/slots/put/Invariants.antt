@@ -1,5 +1,5 @@
 use Rattle.std.proofs.Common.{◌≡◌, ◌+◌, ◌-◌, length}
-use Rattle.wy_conditions.specs.Variables as spec
+use Rattle.wy_vc_spec.specs.Variables as spec
 use Rattle.wy_vc_operations.proofs.slots.put.Given as goal
 
 -- the empty slots that were put behind make no difference

@@ -1,5 +1,5 @@
 use Rattle.std.proofs.Common.{◌∙◌, List, Bool, ap}
-use Rattle.wy_vc_sizes.specs.Marks.{mark_at}
+use Rattle.wy_vc_tables.specs.sizes.Marks.{mark_at}
 use Rattle.wy_vc_tables.proofs.TableLemmas.{described_by}
 use Rattle.wy_vc_tables.proofs.made.program_of.Goals as goal
 

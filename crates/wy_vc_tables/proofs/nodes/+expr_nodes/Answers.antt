@@ -1,8 +1,8 @@
 use Rattle.std.proofs.Common.{◌≡◌, ◌∙◌, ℕ, ap, sym, subst, IfOk}
 use Rattle.wy_core.specs.CoreTree as tree
 use Rattle.wy_core.specs.declared.expressions.ExprKind as kind
-use Rattle.wy_conditions.specs.Named as spec
-use Rattle.wy_vc_sizes.proofs.SizeLemmas.{seen_record}
+use Rattle.wy_vc_spec.specs.Named as spec
+use Rattle.wy_vc_tables.proofs.sizes_lemmas.SizeLemmas.{seen_record}
 use Rattle.wy_vc_tables.specs.Mentions.{no_nodes}
 use Rattle.wy_vc_tables.proofs.nodes.+expr_nodes.Goals as goal
 

@@ -1,7 +1,7 @@
 use Rattle.std.proofs.Common.{◌≡◌, ◌+◌, drop}
 use Rattle.wy_core.specs.CoreSeen.{seen_exprs, seen_fields}
 use Rattle.wy_core.specs.CoreTree.{exprs_of}
-use Rattle.wy_conditions.specs.Named.{nodes_of_exprs, nodes_of_values}
+use Rattle.wy_vc_spec.specs.Named.{nodes_of_exprs, nodes_of_values}
 use Rattle.wy_vc_tables.specs.Mentions.{no_nodes}
 use Rattle.wy_vc_tables.proofs.nodes.+expr_nodes.Given as goal
 

@@ -1,7 +1,7 @@
 use Rattle.std.proofs.Common.{◌≡◌, ◌∙◌, ap, sym, subst, IfOk}
 use Rattle.wy_core.specs.Types as ty
 use Rattle.wy_core.specs.declared.types.TyKind as kind
-use Rattle.wy_conditions.specs.Named as spec
+use Rattle.wy_vc_spec.specs.Named as spec
 use Rattle.wy_vc_tables.specs.Mentions.{no_nodes}
 use Rattle.wy_vc_tables.proofs.SeenLemmas.{seen_record_ty}
 use Rattle.wy_vc_tables.proofs.nodes.+ty_nodes.Goals as goal

@@ -1,6 +1,6 @@
 use Rattle.std.proofs.Common.{◌≡◌, ◌+◌, drop, map}
 use Rattle.wy_core.specs.CoreSeen.{field_tys_of, seen_ty}
-use Rattle.wy_conditions.specs.Named.{nodes_of_fields}
+use Rattle.wy_vc_spec.specs.Named.{nodes_of_fields}
 use Rattle.wy_vc_tables.specs.Mentions.{no_nodes}
 use Rattle.wy_vc_tables.proofs.nodes.+ty_nodes.Given as goal
 

@@ -1,6 +1,6 @@
 use Rattle.std.proofs.Common.{◌≡◌, ◌+◌, drop}
 use Rattle.wy_core.specs.CoreSeen.{seen_exprs}
-use Rattle.wy_conditions.specs.Named.{nodes_of_clauses}
+use Rattle.wy_vc_spec.specs.Named.{nodes_of_clauses}
 use Rattle.wy_vc_tables.specs.Mentions.{no_nodes}
 use Rattle.wy_vc_tables.proofs.nodes.nodes_in_clauses.Given as goal
 

@@ -1,6 +1,6 @@
 use Rattle.std.proofs.Common.{◌≡◌, length, arith}
 use Rattle.wy_core.specs.CoreSeen.{seen_expr}
-use Rattle.wy_conditions.specs.Numbered.{numbered}
+use Rattle.wy_vc_tables.specs.wy_vc_spec.Numbered.{numbered}
 use Rattle.wy_vc_terms.proofs.MadeLemmas.{behind, clause_deep, made_of}
 use Rattle.wy_vc_terms.proofs.formulas.value_formula.Goals as goal
 

@@ -1,5 +1,5 @@
 use Rattle.std.proofs.Common.{ℕ, List, IfOk, subst}
-use Rattle.wy_conditions.specs.Making as made
+use Rattle.wy_vc_tables.specs.wy_vc_spec.Making as made
 use Rattle.wy_vc_operations.specs.Growing.{Makes}
 use Rattle.wy_vc_operations.proofs.GrowingLemmas.{here_kept, onward_if}
 use Rattle.wy_vc_terms.proofs.parts.element.Goals as goal

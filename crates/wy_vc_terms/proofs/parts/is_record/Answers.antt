@@ -1,6 +1,6 @@
 use Rattle.std.proofs.Common.{ℕ, List, IfOk, ◌∙◌, sym, subst}
 use Rattle.wy_term.specs.Term.{record_kind}
-use Rattle.wy_conditions.specs.Making as made
+use Rattle.wy_vc_tables.specs.wy_vc_spec.Making as made
 use Rattle.wy_vc_operations.specs.Growing.{Makes}
 use Rattle.wy_vc_terms.proofs.MadeLemmas.{names_are}
 use Rattle.wy_vc_terms.proofs.parts.is_record.Goals as goal

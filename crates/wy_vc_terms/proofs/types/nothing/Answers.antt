@@ -1,5 +1,5 @@
 use Rattle.std.proofs.Common.{ℕ, List, [], ◌∷◌, subst, sym}
-use Rattle.wy_conditions.specs.Making.{falsehood}
+use Rattle.wy_vc_tables.specs.wy_vc_spec.Making.{falsehood}
 use Rattle.wy_vc_operations.specs.Growing.{AreAt}
 use Rattle.wy_vc_operations.proofs.GrowingLemmas.{none_at, more_at}
 use Rattle.wy_vc_terms.proofs.MadeLemmas.{plainly}

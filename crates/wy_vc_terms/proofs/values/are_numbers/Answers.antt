@@ -1,5 +1,5 @@
 use Rattle.std.proofs.Common.{◌∙◌, ◌&&◌, Bool, ap}
-use Rattle.wy_vc_names.specs.Described.{is_number_in}
+use Rattle.wy_vc_tables.specs.program_names.Described.{is_number_in}
 use Rattle.wy_vc_terms.proofs.values.are_numbers.Goals as goal
 
 pub returns : goal.returns

@@ -1,5 +1,5 @@
 use Rattle.std.proofs.Common.{◌≡◌, ℕ, List, IfOk, subst, arith}
-use Rattle.wy_conditions.specs.Values.{x_word}
+use Rattle.wy_vc_tables.specs.wy_vc_spec.Values.{x_word}
 use Rattle.wy_vc_terms.proofs.words.word_of.Goals as goal
 
 pub returns-in-None : goal.returns-in-None

@@ -2,7 +2,7 @@ use Rattle.std.proofs.Common.{◌+◌, ◌-◌, List, ◌++◌, length, sym, sub
 use Rattle.wy_heap.specs.declared.part.Part.{Part}
 use Rattle.wy_heap.specs.declared.heap.Heap.{Heap}
 use Rattle.wy_heap.specs.Standing.{Stands}
-use Rattle.wy_step.specs.Step.{holding, empties}
+use Rattle.wy_code_spec.specs.step.Step.{holding, empties}
 use Rattle.wy_mach.specs.Showing.{Shows}
 use Rattle.wy_mach.specs.declared.frames.Frame.{Frame}
 use Rattle.wy_mach.specs.States.{places_of}

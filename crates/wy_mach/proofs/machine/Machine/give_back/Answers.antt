@@ -5,11 +5,12 @@ use Rattle.wy_heap.specs.declared.part.Part.{Part}
 use Rattle.wy_heap.specs.declared.part.Part.TheVariants.{Null}
 use Rattle.wy_heap.specs.Standing.{Stands}
 use Rattle.wy_code.specs.declared.instructions.Instr.TheVariants as instr
+use Rattle.wy_lemmas.proofs.Options.{on_any_err}
 use Rattle.wy_mach.specs.declared.frames.Caller.{Caller}
 use Rattle.wy_mach.specs.declared.machine.Machine.{Machine}
 use Rattle.wy_mach.specs.States.{places_below}
 use Rattle.wy_mach.specs.Running.{TurnsBy, IsEnd}
-use Rattle.wy_mach.proofs.TurnLemmas.{if_ok, on_any_err}
+use Rattle.wy_mach.proofs.TurnLemmas.{if_ok}
 use Rattle.wy_mach.proofs.CallLemmas.{no_register, given_places, popped_places, return_steps, end_turns}
 use Rattle.wy_mach.specs.declared.machine.Turn.{Turn}
 use Rattle.wy_mach.specs.declared.machine.Turn.TheVariants as turn

@@ -1,11 +1,12 @@
 use Rattle.std.proofs.Common.{◌≡◌, ℕ, List, Option, sym, ◌∙◌, ap, subst, refl}
 use Rattle.wy_code.specs.declared.instructions.Instr.{Instr}
 use Rattle.wy_code.specs.declared.instructions.Instr.TheVariants as instr
+use Rattle.wy_lemmas.proofs.Options.{on_any_err}
 use Rattle.wy_mach.specs.declared.machine.Turn.{Turn}
 use Rattle.wy_mach.specs.declared.machine.Turn.TheVariants as turn
 use Rattle.wy_mach.specs.Running.{Steps, Turned, TurnsBy, MayTakeMemory, next_by}
 use Rattle.wy_mach.proofs.PaceLemmas.{went_so}
-use Rattle.wy_mach.proofs.TurnLemmas.{machine_at, jump_steps, if_ok, on_any_err}
+use Rattle.wy_mach.proofs.TurnLemmas.{machine_at, jump_steps, if_ok}
 use Rattle.wy_mach.specs.SharedTurns.{SharesCall, SharesBy, EndsSo, EndsBy, IsNoEnd, WantsBy}
 use Rattle.wy_mach.proofs.SharedTurnLemmas.{no_end_so}
 use Rattle.wy_mach.specs.Pacing.{turn_of}

@@ -2,7 +2,7 @@ use Rattle.std.proofs.Common.{List, subst}
 use Rattle.wy_heap.specs.declared.part.Part.{Part}
 use Rattle.wy_heap.specs.Nodes.{map_of}
 use Rattle.wy_code.specs.declared.instructions.Instr.TheVariants as instr
-use Rattle.wy_step.specs.Step.{effect}
+use Rattle.wy_code_spec.specs.step.Step.{effect}
 use Rattle.wy_mach.specs.declared.printing.PrintStop.{PrintStop}
 use Rattle.wy_mach.specs.declared.printing.PrintStop.TheVariants as stop
 use Rattle.wy_mach.specs.Printed.{Prints, IsPrintStop}

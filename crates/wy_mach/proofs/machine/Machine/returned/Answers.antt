@@ -1,6 +1,7 @@
 use Rattle.std.proofs.Common.{◌≡◌, ℕ, List, [], Option, sym, subst}
+use Rattle.wy_lemmas.proofs.Options.{on_any_err}
 use Rattle.wy_mach.specs.Running.{Turned, TurnsBy, MayWantMemory, next_in, instr_of}
-use Rattle.wy_mach.proofs.TurnLemmas.{if_ok, on_err, on_any_err, turned_by}
+use Rattle.wy_mach.proofs.TurnLemmas.{if_ok, on_err, turned_by}
 use Rattle.wy_mach.specs.declared.machine.Turn.{Turn}
 use Rattle.wy_mach.specs.declared.machine.Turn.TheVariants as turn
 use Rattle.wy_heap.specs.Extending.{Extends}

@@ -3,7 +3,7 @@ use Rattle.std.proofs.lemmas.List.{with_items_is}
 use Rattle.std.specs.Vec.{with_items}
 use Rattle.wy_heap.specs.declared.part.Part.{Part}
 use Rattle.wy_heap.specs.Nodes.{map_of}
-use Rattle.wy_step.specs.Step.{effect}
+use Rattle.wy_code_spec.specs.step.Step.{effect}
 use Rattle.wy_mach.specs.declared.stop.Stop.{Stop}
 use Rattle.wy_mach.specs.Showing.{WentOn, HasNone, IsStop, Turns, AreRegisters}
 use Rattle.wy_mach.specs.declared.machine.Machine.{Machine}

@@ -1,5 +1,0 @@
-use Rattle.wy_asked_parts.proofs.AnswerLemmas.{norm_rows, element_rows, field_rows, with_rows}
-use Rattle.wy_asked_parts.proofs.laws.answered_types_have_rows.Goals as goal
-
-pub returns : goal.returns
-returns c = record { norm = norm_rows; element = element_rows; field = field_rows; with_field = with_rows }

@@ -1,4 +1,0 @@
--- field types in order
-pub mod SeenFields
--- a property's clauses at a use of it
-pub mod Instances

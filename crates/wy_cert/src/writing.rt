@@ -1,0 +1,5 @@
+//! The text of certificates.
+
+mod write;
+
+pub use write::write_certs;

@@ -1,6 +1,0 @@
-use Rattle.wy_term.specs.Nodes.{tree_at}
-use Rattle.wy_cert_text.proofs.ProductLemmas.{cert_product}
-use Rattle.wy_cert_text.proofs.write.has_product.Goals as goal
-
-pub returns : goal.returns
-returns c = cert_product (tree_at c.args.cert.now.terms) c.deref.result.now c.args.cert.now.steps.items c.have_product.result c.deref.ensures.value (c.have_product.ensures (tree_at c.args.cert.now.terms))

@@ -1,5 +1,0 @@
-use Rattle.wy_certificates_reread.proofs.FileStops.{faults_stand}
-use Rattle.wy_certificates_reread.proofs.certificate_grammar_law.faults_stand_at_their_lines.Goals as goal
-
-pub returns : goal.returns
-returns c = record { stand = faults_stand }

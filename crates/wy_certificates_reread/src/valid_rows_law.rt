@@ -1,8 +1,0 @@
-//! What the certificates of real programs are judged to be.
-ghost use Rattle.wy_certificates_reread.specs.RealExamples.{RealCertificates};
-
-/// Each certificate is valid, or has its first bad step at the number that is told; the answers come from an independent
-/// program.
-pub fn real_certificates_are_judged()
-    ensures rows { RealCertificates }
-{}

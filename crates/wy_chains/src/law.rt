@@ -1,8 +1,0 @@
-//! Nodes whose classes clash.
-ghost use Rattle.wy_chains.specs.Chains.{ClashesClose};
-
-/// Where the classes of a node clash, by the definition of the search, whose formulas are sorted and its literals folded, some
-/// steps of a certificate close each node that has its literals, beside whatever others.
-pub fn clashing_nodes_close()
-    ensures close { ClashesClose }
-{}

@@ -1,0 +1,11 @@
+use Rattle.std.proofs.Common.{length, ◌∙◌}
+use Rattle.wy_term.specs.Nodes.{tree_at}
+use Rattle.wy_check_nodes.specs.Seen.{seen_branch}
+use Rattle.wy_check.proofs.StepLemmas.{shut_led}
+use Rattle.wy_check.proofs.steps.by_shut.Goals as goal
+
+pub returns-clause-value : goal.returns-clause-value
+returns-clause-value c = λ types. c.closes.ensures.value (tree_at c.args.terms.now) (seen_branch (tree_at c.args.terms.now) c.args.branch.now) ∙ shut_led types (seen_branch (tree_at c.args.terms.now) c.args.branch.now) c.in_ok-valid.valid c.in_ok-valid.ensures
+
+pub returns-clause-within : goal.returns-clause-within
+returns-clause-within c = c.closes.ensures.within (length c.args.terms.now)

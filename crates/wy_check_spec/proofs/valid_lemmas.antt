@@ -1,0 +1,4 @@
+pub mod PlainLemmas
+pub mod ExamplesHold
+pub mod TreeLemmas
+pub mod SharedLemmas

@@ -1,0 +1,57 @@
+//! What quantifiers among a node's literals state: of a given number, and of a new name.
+//!
+//! `quantifier` reads a quantifier; `instance` makes what a true `all` or a false `some` states of an Int term, and `witness`
+//! what a true `some` or a false `all` states of a new name, whose number is none of those of the node's names (`numbers`).
+//! The definitions are those of `wy_check_spec`.
+//!
+//! Which terms a node's literals join, and what a chain of terms states.
+//!
+//! `joined` looks the literals through once and notes the pairs of terms that they join, so that each pair is found in
+//! constant time. `alike` tells whether two terms have one head and arguments that are pairwise the same or joined, and
+//! `chain` makes what a chain of terms states of its ends. The definitions are those of `wy_check_spec`.
+//!
+//! Which literals of a node can't be, by constants and by kinds.
+//!
+//! `constants` has the data of constants, and `kinds` the kinds of constants and of data that are written out. `alone` tells
+//! whether a literal alone can't be. `given` has the terms to which a literal gives or denies a kind, in groups of one kind,
+//! and `meeting` tells whether two groups have a term in common. `clash` puts these together. The definitions are those of
+//! `wy_check_spec`.
+//!
+//! Whether a formula may be split on: an atom of which no free name is bound in the node.
+//!
+//! `todo` keeps which terms are still to be looked at, each once: the greatest number comes first, and a term's parts have
+//! smaller ones. `bound` has the names that the quantifiers of a node bind, and `free` tells whether a name stands free in a
+//! term. `splitting` puts these together. The definition is that of `wy_check_spec`.
+#![tactic(auto)]
+
+mod alike;
+mod alone;
+mod bound;
+mod chain;
+mod clash;
+mod constants;
+mod free;
+mod given;
+mod instance;
+mod joined;
+mod kinds;
+mod making;
+mod meeting;
+mod numbers;
+mod quantifier;
+mod sorts;
+mod splitting;
+mod todo;
+mod witness;
+
+pub use chain::chain_stated;
+pub use clash::is_clash;
+pub use constants::{are_apart, constant_at};
+pub use free::is_free;
+pub use instance::{instance_at, instance_stated, name};
+pub use kinds::{copied_kind, kind_given, same_kind};
+pub use numbers::fresh_number;
+pub use quantifier::{Range, of_each, of_one};
+pub use splitting::may_split;
+pub use todo::{put_all, put_members};
+pub use witness::{witness_stated, witnessed_at};

@@ -1,5 +1,0 @@
-use Rattle.wy_checking.proofs.ShownLemmas.{supplied_is_true}
-use Rattle.wy_checking.proofs.law.supplied_conditions_hold.Goals as goal
-
-pub returns : goal.returns
-returns c = record { sound = supplied_is_true }

@@ -1,5 +1,0 @@
-use Rattle.wy_classes.proofs.SoundLemmas.{classes_sound}
-use Rattle.wy_classes.proofs.law.classes_are_sound.Goals as goal
-
-pub returns : goal.returns
-returns c = classes_sound

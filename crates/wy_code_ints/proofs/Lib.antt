@@ -1,8 +1,0 @@
-pub mod IntLemmas
-pub mod RoutineInts
-pub mod LoadableLemmas
-mod PieceLemmas
-mod TypeLemmas
-mod ExpressionLemmas
-mod StatementLemmas
-pub mod ProgramLemmas

@@ -1,5 +1,0 @@
-use Rattle.wy_code_ints.proofs.LoadableLemmas.{loadable}
-use Rattle.wy_code_ints.proofs.laws.the_code_of_a_program_is_loadable.Goals as goal
-
-pub returns : goal.returns
-returns c = record { loadable = loadable }

@@ -1,0 +1,6 @@
+use Rattle.std.proofs.Common.{◌≡◌, drop, map}
+use Rattle.wy_code_spec.specs.tables.Tables as spec
+use Rattle.wy_code_spec.proofs.tables.tables.with_names.Given as goal
+
+abbrev pub invariant-loop-field : goal.invariant-loop-field
+invariant-loop-field g l = spec.with_names (map (λ f. f.0) (drop l.field-index l.fields)) l.table ≡ spec.with_names (map (λ f. f.0) l.fields) l.fn.table

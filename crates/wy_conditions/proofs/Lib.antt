@@ -1,2 +1,0 @@
--- what small programs owe
-mod ExamplesHold

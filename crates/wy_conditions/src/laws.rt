@@ -1,7 +1,0 @@
-//! What the definition comes to for small programs.
-ghost use Rattle.wy_conditions.specs.Examples.{SmallProgramsOwe};
-
-/// What small programs owe.
-pub fn small_programs_owe()
-    ensures { SmallProgramsOwe }
-{}

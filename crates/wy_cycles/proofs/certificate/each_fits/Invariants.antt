@@ -1,6 +1,0 @@
-use Rattle.std.proofs.Common.{◌≡◌, ◌<◌, ℕ, true}
-use Rattle.wy_cycles.specs.Certificates.{fits}
-use Rattle.wy_cycles.proofs.certificate.each_fits.Given as goal
-
-abbrev pub invariant-loop-node : goal.invariant-loop-node
-invariant-loop-node l = (v : ℕ) → v < l.node → fits l.arrows l.certificate v ≡ true

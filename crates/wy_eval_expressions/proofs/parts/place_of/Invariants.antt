@@ -1,8 +1,0 @@
-use Rattle.std.proofs.Common.{◌≡◌, drop}
-use Rattle.wy_eval_expressions.specs.Operands.{parts_of}
-use Rattle.wy_eval_expressions.specs.Parts.{place_in}
-use Rattle.wy_eval_expressions.proofs.PartLemmas.{behind}
-use Rattle.wy_eval_expressions.proofs.parts.place_of.Given as goal
-
-abbrev pub invariant-loop-i : goal.invariant-loop-i
-invariant-loop-i l = behind l.i (place_in (parts_of (drop l.i l.fields)) l.name) ≡ place_in (parts_of l.fields) l.name

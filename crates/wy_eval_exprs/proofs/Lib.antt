@@ -1,0 +1,27 @@
+-- what operands are, and what they aren't
+pub mod OperandLemmas
+-- equal values, and places of fields
+mod SameLemmas
+mod PartLemmas
+-- numbers
+mod NumberLemmas
+-- indices and lengths
+mod IndexLemmas
+pub mod StoreLemmas
+pub mod LoopLemmas
+-- what nodes stand for
+pub mod KindLemmas
+-- calls one behind the other
+pub mod StepLemmas
+-- turns of loops
+pub mod TurnLemmas
+-- arrays, records and names, and what tests begin with
+pub mod VisitLemmas
+-- declarations by their numbers
+mod RoutineLemmas
+-- what the test of a declaration begins with
+pub mod BeginLemmas
+-- arguments and clauses, one behind the other
+mod TestLemmas
+-- what the laws of the semantics say of an end
+mod EndLemmas

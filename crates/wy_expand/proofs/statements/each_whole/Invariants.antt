@@ -1,8 +1,0 @@
-use Rattle.std.proofs.Common.{◌≡◌, drop}
-use Rattle.wy_ast.specs.SurfaceSeen.{seen_exprs}
-use Rattle.wy_expand.specs.Sizes.{known}
-use Rattle.wy_expand.specs.Wholes.{each_whole}
-use Rattle.wy_expand.proofs.statements.each_whole.Given as goal
-
-abbrev pub invariant-loop-expr : goal.invariant-loop-expr
-invariant-loop-expr l = each_whole (known l.scope l.params l.expansions) l.is_code (seen_exprs (drop l.expr-index l.exprs)) l.found ≡ each_whole (known l.scope l.params l.expansions) l.is_code (seen_exprs l.exprs) l.fn.found

@@ -1,5 +1,0 @@
-use Rattle.wy_judging.proofs.SumsBranchLemmas.{branch_stays}
-use Rattle.wy_explaining.proofs.refuting.by_literal.Goals as goal
-
-pub push_chains-requires-clause-branch : goal.push_chains-requires-clause-branch
-push_chains-requires-clause-branch c = branch_stays c.args.terms.now c.one_used.new.terms c.args.branch.now c.in_ok-all.ensures c.requires.branch

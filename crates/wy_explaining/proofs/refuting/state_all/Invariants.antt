@@ -1,5 +1,0 @@
-use Rattle.wy_facts.specs.Seen.{Stays}
-use Rattle.wy_explaining.proofs.refuting.state_all.Given as goal
-
-abbrev pub invariant-loop-used : goal.invariant-loop-used
-invariant-loop-used l = Stays l.fn.terms l.terms

@@ -1,1 +1,0 @@
--- what functions inside owe each other

@@ -1,4 +1,0 @@
-mod KindLemmas
-mod FormLemmas
-mod LoopLemmas
-mod FoundLemmas

@@ -1,6 +1,0 @@
-use Rattle.std.proofs.Common.{◌≡◌, drop}
-use Rattle.wy_typing.specs.Narrowing as rule
-use Rattle.wy_flow_expressions.proofs.narrowing.is_among.Given as goal
-
-abbrev pub invariant-loop-other : goal.invariant-loop-other
-invariant-loop-other l = rule.is_among (drop l.other-index l.variables) l.variable ≡ rule.is_among l.variables l.variable

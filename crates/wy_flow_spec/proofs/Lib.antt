@@ -1,0 +1,2 @@
+pub mod environment_lemmas
+pub mod typing_lemmas

@@ -1,4 +1,0 @@
--- more variables in scope
-pub mod MoveLemmas
--- an order of declared types
-pub mod RankLemmas

@@ -1,5 +1,0 @@
-use Rattle.wy_formed.proofs.RankLemmas.{ranked_types}
-use Rattle.wy_formed.proofs.laws.types_can_be_put_in_order.Goals as goal
-
-pub returns : goal.returns
-returns c = record { ranked = ranked_types }

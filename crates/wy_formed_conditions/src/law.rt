@@ -1,9 +1,0 @@
-//! What is known of the conditions of a program.
-ghost use Rattle.wy_formed_conditions.specs.OwedConditions.{OwedConditionsAreFormed};
-
-/// The conditions of a program, whatever the program and its flow types: hypotheses, goals and the formulas of named types
-/// are formulas whose terms are of the sorts that their places want; no condition lists a type twice, and the formula of a
-/// listed type has no free name but the Val name beside it.
-pub fn owed_conditions_are_formed()
-    ensures formed { OwedConditionsAreFormed }
-{}

@@ -1,5 +1,0 @@
-use Rattle.wy_formed_types.proofs.OrderLemmas.{ordered_types}
-use Rattle.wy_formed_types.proofs.laws.types_of_a_formed_core_recur_through_parts.Goals as goal
-
-pub returns : goal.returns
-returns c = record { ordered = ordered_types }

@@ -1,0 +1,2 @@
+pub mod code_lemmas
+pub mod programs_lemmas

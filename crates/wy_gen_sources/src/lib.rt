@@ -1,0 +1,8 @@
+//! What is proved of code that was made of a source: its numbers, its names, what it does.
+//!
+//! There is no code here.
+#![tactic(auto)]
+
+pub mod named_programs;
+pub mod source_ints;
+pub mod sourced_code;

@@ -1,4 +1,0 @@
-use Rattle.wy_grammar.proofs.expressions.+joined.Given as goal
-
-abbrev pub decreases-joined : goal.decreases-joined
-decreases-joined g l = l.levels

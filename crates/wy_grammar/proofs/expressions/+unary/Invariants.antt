@@ -1,4 +1,0 @@
-use Rattle.wy_grammar.proofs.expressions.+unary.Given as goal
-
-abbrev pub decreases-unary : goal.decreases-unary
-decreases-unary l = l.levels

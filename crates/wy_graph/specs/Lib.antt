@@ -1,0 +1,3 @@
+pub mod closure
+pub mod cycles
+pub mod reach

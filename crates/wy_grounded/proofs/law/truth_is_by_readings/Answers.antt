@@ -1,5 +1,0 @@
-use Rattle.wy_grounded.proofs.TruthLemmas.{always_by_readings, by_readings_always}
-use Rattle.wy_grounded.proofs.law.truth_is_by_readings.Goals as goal
-
-pub returns : goal.returns
-returns c = record { always = always_by_readings; by_readings = by_readings_always }

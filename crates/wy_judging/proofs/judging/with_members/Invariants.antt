@@ -1,6 +1,0 @@
-use Rattle.std.proofs.Common.{length}
-use Rattle.wy_judging.specs.Seen.{AreBelow}
-use Rattle.wy_judging.proofs.judging.with_members.Given as goal
-
-abbrev pub invariant-loop-member : goal.invariant-loop-member
-invariant-loop-member l = AreBelow (length l.terms) l.todo.items

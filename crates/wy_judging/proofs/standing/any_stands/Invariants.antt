@@ -1,4 +1,0 @@
-use Rattle.wy_judging.proofs.standing.any_stands.Given as goal
-
-abbrev pub invariant-loop-i : goal.invariant-loop-i
-invariant-loop-i l = Unit {0}

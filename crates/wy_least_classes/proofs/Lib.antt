@@ -1,5 +1,0 @@
-mod SizeLemmas
-pub mod PlaceLemmas
-mod RoundLemmas
-pub mod SoundLemmas
-mod LeastLemmas

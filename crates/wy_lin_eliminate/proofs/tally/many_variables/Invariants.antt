@@ -1,0 +1,7 @@
+use Rattle.std.proofs.Common.{◌≡◌, map, drop}
+use Rattle.wy_lin.specs.Seen.{linear_form}
+use Rattle.wy_lin_eliminate.specs.Variables as variables
+use Rattle.wy_lin_eliminate.proofs.tally.many_variables.Given as goal
+
+abbrev pub invariant-loop-i : goal.invariant-loop-i
+invariant-loop-i l = variables.counted_from (map linear_form l.all) l.found.entries (drop l.i-index l.places) ≡ variables.variables (map linear_form l.all) l.places

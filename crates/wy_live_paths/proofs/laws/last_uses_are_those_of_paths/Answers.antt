@@ -1,5 +1,0 @@
-use Rattle.wy_live_paths.proofs.MarkLemmas.{on_paths, of_paths}
-use Rattle.wy_live_paths.proofs.laws.last_uses_are_those_of_paths.Goals as goal
-
-pub returns : goal.returns
-returns c = record { paths = on_paths; marked = of_paths }

@@ -1,7 +1,0 @@
-//! Tests of the semantics and of the machine: what no command shows.
-#![tactic(auto)]
-
-#[cfg(test)]
-mod eval;
-#[cfg(test)]
-mod mach;

@@ -1,5 +1,0 @@
-use Rattle.wy_named.proofs.ProgramLemmas.{none_shown}
-use Rattle.wy_named.proofs.name_faults_laws.a_named_program_shows_no_fault.Goals as goal
-
-pub returns : goal.returns
-returns c = record { none = none_shown }

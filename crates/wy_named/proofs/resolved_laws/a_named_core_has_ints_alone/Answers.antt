@@ -1,5 +1,0 @@
-use Rattle.wy_named.proofs.LiteralLemmas.{named_ints_alone}
-use Rattle.wy_named.proofs.resolved_laws.a_named_core_has_ints_alone.Goals as goal
-
-pub returns : goal.returns
-returns c = record { ints = named_ints_alone }

@@ -1,5 +1,0 @@
-use Rattle.wy_named.proofs.FormedLemmas.{named_small}
-use Rattle.wy_named.proofs.sized_laws.a_named_core_is_small.Goals as goal
-
-pub returns : goal.returns
-returns c = record { small = named_small }

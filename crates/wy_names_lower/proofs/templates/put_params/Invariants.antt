@@ -1,0 +1,10 @@
+use Rattle.std.proofs.Common.{◌≡◌, drop, map}
+use Rattle.wy_ast.specs.SurfaceSeen.{seen_param}
+use Rattle.wy_names_lower.specs.Templates.{params_scope, params_named}
+use Rattle.wy_names_lower.proofs.templates.put_params.Given as goal
+
+abbrev pub invariant-loop-param : goal.invariant-loop-param
+invariant-loop-param l = record {
+  scope : params_scope l.scope l.variables (map seen_param (drop l.param-index l.params)) ≡ params_scope l.fn.scope l.fn.variables (map seen_param l.params);
+  variables : params_named l.variables (map seen_param (drop l.param-index l.params)) ≡ params_named l.fn.variables (map seen_param l.params);
+}

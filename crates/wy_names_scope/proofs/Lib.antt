@@ -1,0 +1,3 @@
+-- what passes over names owe to a cut table
+pub mod ScopeLemmas
+pub mod SharedLemmas

@@ -1,0 +1,11 @@
+use Rattle.std.proofs.Common.{◌-◌, length, arith, rules}
+use Rattle.wy_parse_grammar.specs.Sorts.{is, COMMA}
+use Rattle.wy_parse_grammar.specs.ExprReading as spec
+use Rattle.wy_parse_grammar.proofs.StepLemmas.{turn_stops}
+use Rattle.wy_parse_grammar.proofs.expressions.Inside.more_args.Goals as goal
+
+pub returns-in_err-more : goal.returns-in_err-more
+returns-in_err-more g c =
+    let levels = c.args.self.now.levels in
+    turn_stops (is COMMA) (spec.next_arg levels (spec.unary levels) (spec.expr levels)) (length c.args.tokens.now - c.loop-turn._turn) c.loop-turn.made c.loop-turn.rest.now _ c.in_err-more.field-0.0 c.from_residual.result
+    (search rules) c.loop-turn.invariant (omega arith) (search rules) c.in_err-more.ensures

@@ -1,0 +1,12 @@
+use Rattle.std.proofs.Common.{◌-◌, length, arith, rules}
+use Rattle.wy_parse_grammar.specs.Sorts.{has}
+use Rattle.wy_parse_grammar.specs.declared.sort.Class.TheVariants as class
+use Rattle.wy_parse_grammar.specs.ExprReading as spec
+use Rattle.wy_parse_grammar.proofs.StepLemmas.{turn_stops}
+use Rattle.wy_parse_grammar.proofs.expressions.Inside.steps.Goals as goal
+
+pub returns-in_err-more : goal.returns-in_err-more
+returns-in_err-more g c =
+    let levels = c.args.self.now.levels in
+    turn_stops (has class.Step) (spec.step levels (spec.unary levels) (spec.expr levels)) (length c.args.tokens.now - c.loop-turn._turn) c.loop-turn.made c.loop-turn.rest.now _ c.in_err-more.field-0.0 c.from_residual.result
+    (search rules) c.loop-turn.invariant (omega arith) (search rules) c.in_err-more.ensures

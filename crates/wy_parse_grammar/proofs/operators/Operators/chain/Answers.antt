@@ -1,0 +1,11 @@
+use Rattle.std.proofs.Common.{arith, rules}
+use Rattle.wy_parse_grammar.specs.Sorts.{is}
+use Rattle.wy_parse_grammar.specs.ExprReading as spec
+use Rattle.wy_parse_grammar.proofs.StepLemmas.{turn_stops}
+use Rattle.wy_parse_grammar.proofs.operators.Operators.chain.Goals as goal
+
+pub returns-in_err-more : goal.returns-in_err-more
+returns-in_err-more g c =
+    let levels = c.args.self.now.levels in
+    turn_stops (is c.args.sort) (spec.connected levels (spec.unary levels) c.args.sort) _ c.loop-turn.made c.loop-turn.rest.now _ c.in_err-more.field-0.0 c.from_residual-in_err-more.result
+    (search rules) c.loop-turn.invariant (omega arith) (search rules) c.in_err-more.ensures

@@ -1,4 +1,0 @@
-mod ElementLemmas
-mod UnionLemmas
-mod FieldLemmas
-mod ValueUnionLemmas

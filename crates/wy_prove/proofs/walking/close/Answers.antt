@@ -1,0 +1,28 @@
+use Rattle.std.proofs.Common.{◌≡◌, ◌+◌, List, [], map, sym, subst, arith, rules}
+use Rattle.wy_cert.specs.Steps.{Written, written}
+use Rattle.wy_term.specs.Nodes.{tree_at}
+use Rattle.wy_prove_rounds.specs.wy_check_spec.valid.Validity.{IsValid}
+use Rattle.wy_prove_writable.specs.wy_check_laws.sound.Sortedness.{AreSortedSteps}
+use Rattle.wy_prove.specs.declared.walking.Waiting.{Waiting}
+use Rattle.wy_prove.specs.Tracks.{IsLeft}
+use Rattle.wy_prove.specs.Walks.{seen_waiting, AreWaiting}
+use Rattle.wy_prove.proofs.TrackLemmas.{none_left}
+use Rattle.wy_prove.proofs.walking.close.Goals as goal
+
+pub returns-in-None-clause-value : goal.returns-in-None-clause-value
+returns-in-None-clause-value c = λ k all at h.
+    let none : c.args.waiting.items ≡ [] = search rules in
+    let steps = map (written (tree_at c.args.draft.terms)) c.args.draft.steps.items in
+    let so = none_left k c.args.budget all (c.args.leaves + 1) steps (subst (λ (ws : List Waiting). IsLeft k c.args.budget all (c.args.leaves + 1) steps (map (seen_waiting at) ws)) none h) in
+    subst (λ (ss : List Written). IsValid k ss × AreSortedSteps ss) (sym c.ended.ensures.steps) so
+
+pub returns-in-None-clause-turned : goal.returns-in-None-clause-turned
+returns-in-None-clause-turned c = λ nodes is are. c.ended.ensures.names nodes is
+
+pub returns-in-Some-clause-value : goal.returns-in-Some-clause-value
+returns-in-Some-clause-value c = λ k all at h.
+    let steps = map (written (tree_at c.args.draft.terms)) c.args.draft.steps.items in
+    c.resumed.ensures.value k c.args.budget all at (subst (λ (ws : List Waiting). IsLeft k c.args.budget all (c.args.leaves + 1) steps (map (seen_waiting at) ws)) c.in-Some.ensures.items h)
+
+pub returns-in-Some-clause-turned : goal.returns-in-Some-clause-turned
+returns-in-Some-clause-turned c = λ nodes is are. (c.resumed.ensures.walk nodes is (subst (AreWaiting nodes) c.in-Some.ensures.items are), omega (arith, c.resumed.ensures.leaves, c.requires))

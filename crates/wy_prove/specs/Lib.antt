@@ -1,0 +1,19 @@
+-- what public contracts cite
+pub mod Answers
+-- what functions inside owe each other
+pub mod Tracks
+pub mod Plans
+pub mod Turns
+pub mod Walks
+-- what crates above need too of the search
+pub use Rattle.wy_search.specs.Seen
+pub use Rattle.wy_search.specs.Carried
+pub use Rattle.wy_search.specs.declared.verdict.OpenLeaf
+pub use Rattle.wy_search.specs.declared.verdict.Verdict as Searched
+-- passed on to the crates above
+pub use Rattle.wy_cert.specs as wy_cert
+pub use Rattle.wy_check.specs as wy_check
+pub use Rattle.wy_check_nodes.specs as wy_check_nodes
+pub use Rattle.wy_prove_writable.specs as wy_prove_writable
+pub use Rattle.wy_prove_leaves.specs.wy_search_laws as wy_search_laws
+pub use Rattle.wy_prove_leaves.specs.wy_search_spec as wy_search_spec

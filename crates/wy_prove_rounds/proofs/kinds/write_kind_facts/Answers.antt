@@ -1,0 +1,73 @@
+use Rattle.std.proofs.Common.{◌≤◌, List, length, refl, sym, subst, rules}
+use Rattle.wy_facts.proofs.SharedLemmas.{types_stay}
+use Rattle.wy_facts.proofs.StepLemmas.{stays_on, stays_same}
+use Rattle.wy_prove_drafts.specs.wy_check_spec.judge.Node.{Node}
+use Rattle.wy_check_nodes.specs.Seen.{seen_branch, seen_formula}
+use Rattle.wy_check_nodes.proofs.SumsBranchLemmas.{branch_stays, node_stays}
+use Rattle.wy_prove_drafts.specs.Draft.{seen_draft}
+use Rattle.wy_prove_drafts.specs.wy_search_spec.Expansion.{with_kind_facts, with_some, kind_fact}
+use Rattle.wy_check_splits.proofs.SharedLemmas.{formula_kept, within_now}
+use Rattle.wy_search_facts.proofs.AddingLemmas.{types_up}
+use Rattle.wy_term.specs.Condition.{Entry, condition_of}
+use Rattle.wy_term.specs.Nodes.{tree_at}
+use Rattle.wy_term.specs.Term.{Term}
+use Rattle.wy_prove_rounds.specs.Moving.{IsFit}
+use Rattle.wy_prove_rounds.proofs.LoopLemmas.{loop_begins, loop_ends, loop_goes, moves_at, of_all}
+use Rattle.wy_prove_rounds.proofs.kinds.write_kind_facts.Goals as goal
+
+pub write_kind_fact-requires-clause-types : goal.write_kind_fact-requires-clause-types
+write_kind_fact-requires-clause-types c = types_up c.args.terms.now c.loop-i.terms c.args.cond.now c.loop-i.invariant.stays c.requires.types
+
+pub write_kind_fact-requires-clause-branch : goal.write_kind_fact-requires-clause-branch
+write_kind_fact-requires-clause-branch c = branch_stays c.args.terms.now c.loop-i.terms c.args.branch.now c.loop-i.invariant.stays c.requires.branch
+
+pub write_kind_fact-requires-clause-term : goal.write_kind_fact-requires-clause-term
+write_kind_fact-requires-clause-term c = within_now c.args.terms.now c.loop-i.terms c.args.found.now.pending.keys c.loop-i.i c.pending_at-t.result c.loop-i.invariant.stays c.requires.found.pending c.pending_at-t.ensures
+
+pub loop-i-init : goal.loop-i-init
+loop-i-init c =
+    let old = c.args.terms.now in
+    let at = tree_at old in
+    let types = (condition_of old c.args.cond.now).types in
+    let node = seen_branch at c.args.branch.now in
+    record {
+      moves = λ are. loop_begins types node (λ (n : Node) (ts : List Term). with_kind_facts node n ts) (λ (n : Node) (x : Term). with_some n (kind_fact node x)) (λ node. refl) (λ node t ts. refl) (seen_formula at) c.args.found.now.pending.keys (seen_draft at c.args.draft.now);
+      draft = c.requires.draft;
+      stays = stays_same old;
+    }
+
+pub loop-i-preserved : goal.loop-i-preserved
+loop-i-preserved c =
+    let old = c.args.terms.now in
+    let now = c.loop-i.terms in
+    let at = tree_at old in
+    let stays = c.loop-i.invariant.stays in
+    let keys = c.args.found.now.pending.keys in
+    let i = c.loop-i.i in
+    let p = c.pending_at-t.result in
+    let here = c.pending_at-t.ensures in
+    let types = (condition_of old c.args.cond.now).types in
+    let node = seen_branch at c.args.branch.now in
+    let same = types_stay old now c.args.cond.now stays c.requires.types in
+    let is = node_stays old now c.args.branch.now stays c.requires.branch in
+    let tree = formula_kept old now keys i p stays c.requires.found.pending here in
+    let first = seen_draft at c.args.draft.now in
+    let second = seen_draft (tree_at now) c.loop-i.draft in
+    let third = seen_draft (tree_at c.write_kind_fact.new.terms) c.write_kind_fact.new.draft in
+    record {
+      moves = λ are.
+          loop_goes types node (λ (n : Node) (ts : List Term). with_kind_facts node n ts) (λ (n : Node) (x : Term). with_some n (kind_fact node x)) (λ node. refl) (λ node t ts. refl) (seen_formula at) keys i p first second third here
+          (c.loop-i.invariant.moves are)
+          (moves_at (condition_of now c.args.cond.now).types types (seen_branch (tree_at now) c.args.branch.now) node (seen_formula (tree_at now) p) (seen_formula at p) (λ (es : List Entry) (b : Node) (x : Term) (n : Node). with_some n (kind_fact b x)) second third same is tree (c.in_ok-write_kind_fact.ensures.value (subst IsFit (sym tree) (of_all IsFit (seen_formula at) keys i p here are))));
+      draft = c.in_ok-write_kind_fact.ensures.draft;
+      stays = stays_on old now c.write_kind_fact.new.terms stays c.in_ok-write_kind_fact.ensures.stays;
+    }
+
+pub returns-clause-value : goal.returns-clause-value
+returns-clause-value c = λ are.
+    let old = c.args.terms.now in
+    let at = tree_at old in
+    let types = (condition_of old c.args.cond.now).types in
+    let node = seen_branch at c.args.branch.now in
+    let le : length c.args.found.now.pending.keys ≤ c.loop-i.i = search rules in
+    loop_ends types node (λ (n : Node) (ts : List Term). with_kind_facts node n ts) (λ (n : Node) (x : Term). with_some n (kind_fact node x)) (λ node. refl) (λ node t ts. refl) (seen_formula at) c.args.found.now.pending.keys c.loop-i.i (seen_draft at c.args.draft.now) (seen_draft (tree_at c.loop-i.terms) c.loop-i.draft) le (c.loop-i.invariant.moves are)

@@ -1,8 +1,0 @@
--- The lines, written out.
-use Rattle.std.proofs.Common.{refl}
-use Rattle.std.specs.Fmt.{digits}
-use Rattle.wy_report.specs.Rows.{AsShown}
-
-pub rows : AsShown
-unfolding digits
-rows = (refl, refl, refl, refl, refl, refl, refl, refl, refl, refl, refl, refl, refl, refl, refl, refl, refl, refl)

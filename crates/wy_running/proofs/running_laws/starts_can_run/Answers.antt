@@ -1,5 +1,0 @@
-use Rattle.wy_running.proofs.CanRunLemmas.{starts_can}
-use Rattle.wy_running.proofs.running_laws.starts_can_run.Goals as goal
-
-pub returns : goal.returns
-returns c = record { can = starts_can }

@@ -1,3 +1,0 @@
-mod PartLemmas
-mod LoopLemmas
-mod SeenLemmas

@@ -1,6 +1,0 @@
-use Rattle.std.proofs.Common.{◌≡◌, drop}
-use Rattle.wy_scan.specs.Words.{rises}
-use Rattle.wy_scan.proofs.names.rise.Given as goal
-
-abbrev pub invariant-loop-k : goal.invariant-loop-k
-invariant-loop-k l = rises (drop l.k l.names) ≡ rises l.names

@@ -1,2 +1,0 @@
--- what passes over names owe to a cut table
-pub mod ScopeLemmas

@@ -1,3 +1,0 @@
-pub mod AtomLemmas
-mod EndLemmas
-pub mod RoundLemmas

@@ -1,0 +1,47 @@
+use Rattle.std.proofs.Common.{◌∙◌, ◌≡◌, ◌≤◌, [], ◌∷◌, length, refl, rules, List, ap₂}
+use Rattle.wy_facts.proofs.StepLemmas.{stays_on}
+use Rattle.wy_facts.specs.Seen.{terms_at}
+use Rattle.wy_cong.specs.wy_check_spec.judge.Node.{Node, with_formulas}
+use Rattle.wy_check_nodes.proofs.SharedLemmas.{end_led, step_led}
+use Rattle.wy_check_nodes.specs.Seen.{seen_branch}
+use Rattle.wy_cong.specs.wy_search_spec.Expansion.{kind_fact, with_kind_facts, with_some}
+use Rattle.wy_check_splits.proofs.SharedLemmas.{formula_kept, within_now}
+use Rattle.wy_search_facts.proofs.AddingLemmas.{types_up}
+use Rattle.wy_search_facts.proofs.kinds.push_kind_facts.Goals as goal
+use Rattle.wy_check_nodes.proofs.SumsBranchLemmas.{branch_stays, node_stays}
+use Rattle.wy_term.specs.Nodes.{tree_at}
+use Rattle.wy_term.specs.Term.{Term}
+
+pub push_kind_fact-requires-clause-term : goal.push_kind_fact-requires-clause-term
+push_kind_fact-requires-clause-term c = within_now c.args.terms.now c.loop-i.terms c.args.found.now.pending.keys c.loop-i.i c.pending_at-t.result c.loop-i.invariant.stays c.requires.found.pending c.pending_at-t.ensures
+
+pub push_kind_fact-requires-clause-types : goal.push_kind_fact-requires-clause-types
+push_kind_fact-requires-clause-types c = types_up c.args.terms.now c.loop-i.terms c.args.cond.now c.loop-i.invariant.stays c.requires.types
+
+pub push_kind_fact-requires-clause-branch : goal.push_kind_fact-requires-clause-branch
+push_kind_fact-requires-clause-branch c = branch_stays c.args.terms.now c.loop-i.terms c.args.branch.now c.loop-i.invariant.stays c.requires.branch
+
+pub loop-i-preserved : goal.loop-i-preserved
+loop-i-preserved c =
+    let old = c.args.terms.now in
+    let now = c.loop-i.terms in
+    let stays = c.loop-i.invariant.stays in
+    let keys = c.args.found.now.pending.keys in
+    let p = c.pending_at-t.result in
+    let tree = formula_kept old now keys c.loop-i.i p stays c.requires.found.pending c.pending_at-t.ensures in
+    record {
+      leads = λ start.
+          step_led (λ (node : Node) (ts : List Term). with_kind_facts (seen_branch (tree_at old) c.args.branch.now) node ts) (λ (node : Node) (t : Term). with_some node (kind_fact (seen_branch (tree_at old) c.args.branch.now) t)) (λ node t ts. refl) (tree_at old) keys c.loop-i.i p _ _ _ c.pending_at-t.ensures
+          (c.in_ok-push_kind_fact.ensures.value.value start ∙ ap₂ (λ (n : Node) (t : Term). with_some (with_formulas start (terms_at now c.loop-i.facts.items)) (kind_fact n t)) (node_stays old now c.args.branch.now stays c.requires.branch) tree)
+          (c.loop-i.invariant.leads start);
+      below = c.in_ok-push_kind_fact.ensures.value.below;
+      stays = stays_on old now c.push_kind_fact.new.terms stays c.in_ok-push_kind_fact.ensures.stays;
+    }
+
+pub returns-clause-value : goal.returns-clause-value
+returns-clause-value c =
+    let le : length c.args.found.now.pending.keys ≤ c.loop-i.i = search rules in
+    record {
+      value = λ start. end_led (λ (node : Node) (ts : List Term). with_kind_facts (seen_branch (tree_at c.args.terms.now) c.args.branch.now) node ts) (λ node. refl) (tree_at c.args.terms.now) c.args.found.now.pending.keys c.loop-i.i _ _ le (c.loop-i.invariant.leads start);
+      below = c.loop-i.invariant.below;
+    }

@@ -1,0 +1,3 @@
+pub mod AtomLemmas
+pub mod EndLemmas
+pub mod RoundLemmas

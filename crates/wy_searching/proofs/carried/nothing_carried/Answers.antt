@@ -1,4 +1,0 @@
-use Rattle.wy_searching.proofs.carried.nothing_carried.Goals as goal
-
-pub returns : goal.returns
-returns c = λ nodes le. record { forms = c.no_forms.ensures nodes le; front = c.no_front.ensures nodes }

@@ -1,5 +1,0 @@
-use Rattle.wy_simulation.proofs.PlaceLemmas.{placed_stand}
-use Rattle.wy_simulation.proofs.law.placed_steps_stand.Goals as goal
-
-pub returns : goal.returns
-returns c = record { stand = placed_stand }

@@ -1,4 +1,0 @@
--- what public contracts cite
-pub mod Turns
-pub mod Solutions
-pub mod Literals

@@ -1,5 +1,0 @@
-use Rattle.wy_sound_clauses.proofs.LawsHold.{assumed_are_known}
-use Rattle.wy_sound_clauses.proofs.law.assumed_clauses_are_known.Goals as goal
-
-pub returns : goal.returns
-returns c = record { known = assumed_are_known }

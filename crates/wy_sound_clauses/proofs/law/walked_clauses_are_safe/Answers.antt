@@ -1,5 +1,0 @@
-use Rattle.wy_sound_clauses.proofs.LawsHold.{walked_are_safe}
-use Rattle.wy_sound_clauses.proofs.law.walked_clauses_are_safe.Goals as goal
-
-pub returns : goal.returns
-returns c = record { safe = walked_are_safe }

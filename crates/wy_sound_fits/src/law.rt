@@ -1,8 +1,0 @@
-//! The law of typed clauses, as the contract of a function without a body.
-ghost use Rattle.wy_sound_fits.specs.Fit.{TypedClausesFit};
-
-/// Clauses that are typed, and that call nothing, fit each store in which the variables that they use have values of their types:
-/// what they meet is of the kinds that they ask for, and their answers are truth values.
-pub fn clauses_fit()
-    ensures fit { TypedClausesFit }
-{}

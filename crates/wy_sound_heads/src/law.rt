@@ -1,8 +1,0 @@
-//! The law of the heads of loops, as the contract of a function without a body.
-ghost use Rattle.wy_sound_heads.specs.Heads.{HeadsAreSound};
-
-/// A store at any turn of a loop is at the loop's head: the new names of the variables that the body assigns are given their
-/// values at this turn, and those that had values at the entry are in their declared types.
-pub fn heads_are_sound()
-    ensures sound { HeadsAreSound }
-{}

@@ -1,8 +1,0 @@
-//! The law of numbers, as the contract of a function without a body.
-ghost use Rattle.wy_sound_numbers.specs.Numbers.{NumbersChangeNothing};
-
-/// A program whose expressions are numbered does on the same arguments, with the same ticks, what the program does without
-/// numbers: the same value or fault, the same output, the same count of ticks and turns.
-pub fn numbers_change_nothing()
-    ensures same { NumbersChangeNothing }
-{}

@@ -1,5 +1,0 @@
-use Rattle.wy_sound_suits.proofs.SuitLemmas.{code_suits, contracts_suit}
-use Rattle.wy_sound_suits.proofs.law.expressions_suit.Goals as goal
-
-pub returns : goal.returns
-returns c = record { code = code_suits; contracts = contracts_suit }

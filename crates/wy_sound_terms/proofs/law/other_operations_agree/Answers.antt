@@ -1,5 +1,0 @@
-use Rattle.wy_sound_terms.proofs.OtherLemmas.{others_agree}
-use Rattle.wy_sound_terms.proofs.law.other_operations_agree.Goals as goal
-
-pub returns : goal.returns
-returns c = record { agree = others_agree }

@@ -1,6 +1,0 @@
--- refusals are want of memory or not
-pub mod MemoryLemmas
--- one core, or one refusal before it
-pub mod CoreLemmas
--- one program, or one refusal behind its core
-pub mod ProgramLemmas

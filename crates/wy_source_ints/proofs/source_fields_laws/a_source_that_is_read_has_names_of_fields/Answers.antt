@@ -1,5 +1,0 @@
-use Rattle.wy_source_ints.proofs.ProgramFields.{read-fields}
-use Rattle.wy_source_ints.proofs.source_fields_laws.a_source_that_is_read_has_names_of_fields.Goals as goal
-
-pub returns : goal.returns
-returns c = record { fields = read-fields }

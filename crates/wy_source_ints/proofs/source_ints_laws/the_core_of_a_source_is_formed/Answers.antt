@@ -1,5 +1,0 @@
-use Rattle.wy_source_ints.proofs.FormedInts.{source-formed}
-use Rattle.wy_source_ints.proofs.source_ints_laws.the_core_of_a_source_is_formed.Goals as goal
-
-pub returns : goal.returns
-returns c = record { formed = source-formed }

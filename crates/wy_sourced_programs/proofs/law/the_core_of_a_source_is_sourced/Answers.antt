@@ -1,5 +1,0 @@
-use Rattle.wy_sourced_programs.proofs.SourceLemmas.{spelled_sourced}
-use Rattle.wy_sourced_programs.proofs.law.the_core_of_a_source_is_sourced.Goals as goal
-
-pub returns : goal.returns
-returns c = record { sourced = spelled_sourced }

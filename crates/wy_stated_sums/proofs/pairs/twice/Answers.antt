@@ -1,5 +1,0 @@
-use Rattle.wy_stated_sums.proofs.TakenLemmas.{twice_below}
-use Rattle.wy_stated_sums.proofs.pairs.twice.Goals as goal
-
-pub returns-in-None : goal.returns-in-None
-returns-in-None c = λ fits. c.in-None.ensures (twice_below c.args.pairs.now c.loop-pair.pair-index (0, 0) fits c.loop-pair-test.true)

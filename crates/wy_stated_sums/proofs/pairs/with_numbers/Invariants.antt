@@ -1,6 +1,0 @@
-use Rattle.std.proofs.Common.{◌≡◌, take}
-use Rattle.wy_stated_sums.specs.Named.{with_numbers}
-use Rattle.wy_stated_sums.proofs.pairs.with_numbers.Given as goal
-
-abbrev pub invariant-loop-m : goal.invariant-loop-m
-invariant-loop-m l = l.made.items ≡ with_numbers l.numbers (take l.m-index l.multipliers)

@@ -1,6 +1,0 @@
-use Rattle.std.proofs.Common.{◌≡◌, drop, map}
-use Rattle.wy_tables.specs.Tables as spec
-use Rattle.wy_tables.proofs.tables.with_names.Given as goal
-
-abbrev pub invariant-loop-field : goal.invariant-loop-field
-invariant-loop-field g l = spec.with_names (map (λ f. f.0) (drop l.field-index l.fields)) l.table ≡ spec.with_names (map (λ f. f.0) l.fields) l.fn.table

@@ -1,0 +1,26 @@
+use Rattle.std.proofs.Common.{refl}
+use Rattle.wy_top_words.specs.CommandLine.{read}
+use Rattle.wy_top_words.proofs.law.lines_mean.Goals as goal
+
+pub returns : goal.returns
+unfolding read
+returns c = record {
+  plain = refl;
+  equals = refl;
+  between = refl;
+  ended = refl;
+  twice = refl;
+  missing = refl;
+  unknown = refl;
+  stray = refl;
+  single = refl;
+  elsewhere = refl;
+  whole = refl;
+  short = refl;
+  made = refl;
+  many = refl;
+  few = refl;
+  digits = refl;
+  nothing = refl;
+  other = refl;
+}

@@ -1,0 +1,30 @@
+//! What small command lines mean.
+ghost use Rattle.std.specs.Prelude.{◌≡◌, ◌∷◌, [], None, Some, codes, false, true};
+ghost use Rattle.wy_top_words.specs.CommandLine.{big, check, command_of, conds, run};
+
+/// Options stand before, between and behind the operands, as two words or as one, each once at most, and `--` ends them.
+pub fn lines_mean()
+    ensures plain { command_of (codes "check" ∷ codes "a" ∷ codes "none" ∷ [])
+        ≡ Some (check (codes "a") (codes "none") 20000) }
+    ensures equals { command_of (codes "check" ∷ codes "a" ∷ codes "none" ∷ codes "--budget=5" ∷ [])
+        ≡ Some (check (codes "a") (codes "none") 5) }
+    ensures between { command_of (codes "check" ∷ codes "a" ∷ codes "--budget" ∷ codes "5" ∷ codes "none" ∷ [])
+        ≡ Some (check (codes "a") (codes "none") 5) }
+    ensures ended { command_of (codes "check" ∷ codes "--" ∷ codes "-a" ∷ codes "none" ∷ [])
+        ≡ Some (check (codes "-a") (codes "none") 20000) }
+    ensures twice { command_of (codes "check" ∷ codes "--budget" ∷ codes "5" ∷ codes "a" ∷ codes "none" ∷ codes "--budget" ∷ codes "6" ∷ []) ≡ None }
+    ensures missing { command_of (codes "check" ∷ codes "a" ∷ codes "none" ∷ codes "--budget" ∷ []) ≡ None }
+    ensures unknown { command_of (codes "check" ∷ codes "a" ∷ codes "none" ∷ codes "--workers" ∷ codes "2" ∷ []) ≡ None }
+    ensures stray { command_of (codes "conds" ∷ codes "-a" ∷ []) ≡ None }
+    ensures single { command_of (codes "conds" ∷ codes "-" ∷ []) ≡ Some (conds (codes "-")) }
+    ensures elsewhere { command_of (codes "conds" ∷ codes "a" ∷ codes "--budget" ∷ codes "5" ∷ []) ≡ None }
+    ensures whole { command_of (codes "run" ∷ codes "--stats" ∷ codes "a" ∷ codes "b" ∷ codes "--steps=7" ∷ codes "f" ∷ codes "()" ∷ [])
+        ≡ Some (run (codes "a") (codes "b") (codes "f") (codes "()") 20000 7 true) }
+    ensures short { command_of (codes "run" ∷ codes "a" ∷ codes "none" ∷ codes "f" ∷ []) ≡ None }
+    ensures made { command_of (codes "big" ∷ codes "1" ∷ codes "65536" ∷ []) ≡ Some (big 1 65536 20000 10000000) }
+    ensures many { command_of (codes "big" ∷ codes "501" ∷ codes "7" ∷ []) ≡ None }
+    ensures few { command_of (codes "big" ∷ codes "0" ∷ codes "7" ∷ []) ≡ None }
+    ensures digits { command_of (codes "big" ∷ codes "00000000000001" ∷ codes "7" ∷ []) ≡ None }
+    ensures nothing { command_of [] ≡ None }
+    ensures other { command_of (codes "help" ∷ []) ≡ None }
+{}

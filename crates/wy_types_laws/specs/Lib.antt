@@ -1,0 +1,2 @@
+pub mod asked_types
+pub mod parts

@@ -1,3 +1,0 @@
-pub mod PlainLemmas
-pub mod ExamplesHold
-pub mod TreeLemmas

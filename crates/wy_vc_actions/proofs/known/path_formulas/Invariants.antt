@@ -1,5 +1,0 @@
-use Rattle.wy_vc_actions.proofs.EquationLemmas.{AreMade}
-use Rattle.wy_vc_actions.proofs.known.path_formulas.Given as goal
-
-abbrev pub invariant-loop-path : goal.invariant-loop-path
-invariant-loop-path l = AreMade l.fn.maker l.maker l.names l.paths l.path-index l.formulas.items

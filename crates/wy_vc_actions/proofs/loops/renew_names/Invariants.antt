@@ -1,9 +1,0 @@
-use Rattle.std.proofs.Common.{◌-◌}
-use Rattle.wy_conditions.specs.Spots.{is_set}
-use Rattle.wy_vc_actions.specs.Paths.{spot_of}
-use Rattle.wy_vc_actions.specs.Loops.{name_if, renewed_names}
-use Rattle.wy_vc_actions.proofs.LoopLemmas.{IsRenewing}
-use Rattle.wy_vc_actions.proofs.loops.renew_names.Given as goal
-
-abbrev pub invariant-loop-x : goal.invariant-loop-x
-invariant-loop-x l = IsRenewing (λ x p n. name_if l.words x (is_set l.marks x) p n) l.fn.walk l.walk l.here l.x (l.most - l.x) (renewed_names l.words l.marks 0 l.most (spot_of l.fn.walk l.fn.here) l.fn.walk.maker.count)

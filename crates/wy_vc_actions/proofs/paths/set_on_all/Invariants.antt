@@ -1,8 +1,0 @@
-use Rattle.std.proofs.Common.{◌≡◌, List, drop}
-use Rattle.wy_term.specs.Nodes.{Plain}
-use Rattle.wy_conditions.specs.Joins as spec
-use Rattle.wy_vc_actions.specs.Paths.{seen_paths}
-use Rattle.wy_vc_actions.proofs.paths.set_on_all.Given as goal
-
-abbrev pub invariant-loop-path : goal.invariant-loop-path
-invariant-loop-path l = (nodes : List Plain) → spec.set_on_all (seen_paths nodes (drop l.path-index l.paths)) l.x ≡ spec.set_on_all (seen_paths nodes l.paths) l.x

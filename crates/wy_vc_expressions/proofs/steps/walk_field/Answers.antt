@@ -1,7 +1,0 @@
-use Rattle.std.proofs.Common.{refl}
-use Rattle.wy_vc_expressions.proofs.StepLemmas.{finish_made}
-use Rattle.wy_vc_expressions.proofs.NumberedLemmas.{at_itself}
-use Rattle.wy_vc_expressions.proofs.steps.walk_field.Goals as goal
-
-pub returns-clause-value : goal.returns-clause-value
-returns-clause-value c = finish_made _ _ _ _ _ _ c.requires.sound (c.in_ok-made.ensures.made _ (at_itself c.requires.v)) c.in_ok-pass.ensures.after refl refl

@@ -1,0 +1,9 @@
+use Rattle.std.proofs.Common.{drop}
+use Rattle.wy_core.specs.CoreSeen.{seen_exprs}
+use Rattle.wy_vc_tables.specs.program_names.Described.{setting}
+use Rattle.wy_vc_exprs.proofs.ClauseLemmas.{Left, assuming_clauses}
+use Rattle.wy_vc_exprs.proofs.clauses.assume_clauses.Given as goal
+
+-- what is left comes to all
+abbrev pub invariant-loop-clause : goal.invariant-loop-clause
+invariant-loop-clause l = Left (assuming_clauses (setting l.core l.program) l.words) l.fn.walk l.walk l.fn.vars.items l.vars.items (seen_exprs (drop l.clause-index l.clauses)) (seen_exprs l.clauses)

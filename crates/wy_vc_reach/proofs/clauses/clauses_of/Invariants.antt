@@ -1,7 +1,0 @@
-use Rattle.std.proofs.Common.{◌≡◌, ◌++◌, drop}
-use Rattle.wy_vc_reach.specs.Walks.{clauses_of}
-use Rattle.wy_vc_reach.proofs.clauses.clauses_of.Given as goal
-
--- those made, and those of the names that are left
-abbrev pub invariant-loop-number : goal.invariant-loop-number
-invariant-loop-number l = l.made.items ++ clauses_of l.number (drop l.number l.entries) ≡ clauses_of 0 l.entries

@@ -1,6 +1,0 @@
-use Rattle.wy_vc_reach.proofs.SizeLemmas.{SizesSoFar}
-use Rattle.wy_vc_reach.proofs.sizes.sizes_of.Given as goal
-
--- what stands before this place of the order has its size
-abbrev pub invariant-loop-number : goal.invariant-loop-number
-invariant-loop-number l = SizesSoFar l.entries l.order l.number-index l.sizes
