@@ -2,7 +2,7 @@
 use Rattle.std.proofs.Common.{◌≡◌, ℕ, ◌<◌, List, [], ◌∷◌, ◌++◌, Bool, All, map, Option, Some, None, MatchOption, refl, sym, ap, ◌∙◌, subst, append_assoc}
 use denote.Ref.{Bor}
 use Rattle.std.proofs.lemmas.List.Elements.{All-head, All-tail}
-use Rattle.wy_term.specs.Term.{Term}
+use Rattle.wy_term_text.specs.wy_term.Term.{Term}
 use Rattle.wy_cert.specs.Only.{IsTheOne, HasNone, IsBehind, GoesOn}
 use Rattle.wy_cert.specs.Arguments.{IsCut, NoCut, IsPieceAt, IsArgument, AreArguments, FollowBy}
 use Rattle.wy_cert.proofs.CutLemmas.{one_piece}

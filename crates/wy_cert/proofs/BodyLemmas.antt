@@ -1,8 +1,8 @@
 -- What follows the word of a step: there is one step of it, or none.
 use Rattle.std.proofs.Common.{◌≡◌, ℕ, ◌<◌, ◌≤◌, List, [], ◌∷◌, Bool, true, false, Option, Some, None, length, codes, refl, ap, ◌∙◌, subst, arith}
 use Rattle.wy_data.specs.scan.Front.{IsBehind, NotBehind}
-use Rattle.wy_term.specs.Term.{Term}
-use Rattle.wy_term.specs.Sorts.{formula_sort}
+use Rattle.wy_term_text.specs.wy_term.Term.{Term}
+use Rattle.wy_term_text.specs.wy_term.Sorts.{formula_sort}
 use Rattle.wy_term_text.specs.spell.Made.{IsSpelled, SpellsNone, IsOnly}
 use Rattle.wy_cert.specs.declared.verb.Verb.TheVariants as verb
 use Rattle.wy_cert.specs.Only.{IsTheOne, HasNone}

@@ -1,7 +1,7 @@
 -- Terms and formulas of a line: there is one, or none.
 use Rattle.std.proofs.Common.{◌≡◌, ℕ, List, Bool, true, false, Option, Some, None, Result, Ok, Err, IfOk, IfSome, MatchOption, inl, inr, ◌∙◌}
-use Rattle.wy_term.specs.Term.{Term}
-use Rattle.wy_term.specs.Sorts.{Sort, int_sort, val_sort, formula_sort}
+use Rattle.wy_term_text.specs.wy_term.Term.{Term}
+use Rattle.wy_term_text.specs.wy_term.Sorts.{Sort, int_sort, val_sort, formula_sort}
 use Rattle.wy_term_text.specs.spell.Made.{IsSpelled, SpellsNone, IsOnly, SpellsNoTerm, IsOnlyTerm}
 use Rattle.wy_cert.specs.Only.{IsTheOne, HasNone}
 use Rattle.wy_cert.specs.Arguments.{IsTerm, IsArgument}

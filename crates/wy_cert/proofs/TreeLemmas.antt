@@ -1,7 +1,7 @@
 -- A tree of steps, line by line.
 use Rattle.std.proofs.Common.{◌≡◌, ℕ, ◌+◌, ◌-◌, ◌<◌, ◌≤◌, List, [], ◌∷◌, ◌++◌, Bool, All, map, Result, Ok, Err, refl, ap, ◌∙◌, subst, arith}
 use Rattle.std.proofs.lemmas.List.Elements.{All-head, All-tail}
-use Rattle.wy_term.specs.Term.{Term}
+use Rattle.wy_term_text.specs.wy_term.Term.{Term}
 use Rattle.wy_cert.specs.declared.fault.CertFault.{CertFault}
 use Rattle.wy_cert.specs.declared.fault.CertFault.TheVariants.{BadStep, Truncated}
 use Rattle.wy_cert.specs.declared.step.Step.{Step}

@@ -1,8 +1,8 @@
 -- Terms of a line, with a semicolon between spaces between two.
 use Rattle.std.specs.Prelude.{◌≡◌, ℕ, ◌<◌, ◌≤◌, List, [], ◌∷◌, ◌++◌, Bool, true, false, codes, length, drop, Option, Some, None, ◌⊎◌}
 use Rattle.wy_data.specs.scan.Front.{NotBehind}
-use Rattle.wy_term.specs.Term.{Term}
-use Rattle.wy_term.specs.Sorts.{int_sort, val_sort, formula_sort}
+use Rattle.wy_term_text.specs.wy_term.Term.{Term}
+use Rattle.wy_term_text.specs.wy_term.Sorts.{int_sort, val_sort, formula_sort}
 use Rattle.wy_term_text.specs.spell.Made.{IsSpelled, SpellsNoTerm}
 
 -- the bytes before the first ` ; `, and those behind it

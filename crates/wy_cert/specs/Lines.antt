@@ -1,8 +1,8 @@
 -- Which lines spell which steps.
 use Rattle.std.specs.Prelude.{◌≡◌, ℕ, ◌<◌, ◌≤◌, List, [], ◌∷◌, Bool, true, false, codes, length, Option, Some, None}
 use Rattle.wy_data.specs.scan.Front.{IsBehind}
-use Rattle.wy_term.specs.Term.{Term}
-use Rattle.wy_term.specs.Sorts.{formula_sort}
+use Rattle.wy_term_text.specs.wy_term.Term.{Term}
+use Rattle.wy_term_text.specs.wy_term.Sorts.{formula_sort}
 use Rattle.wy_term_text.specs.spell.Made.{IsSpelled}
 use Rattle.wy_cert.specs.declared.verb.Verb.{Verb}
 use Rattle.wy_cert.specs.declared.verb.Verb.TheVariants as verb

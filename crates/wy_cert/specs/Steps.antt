@@ -1,7 +1,7 @@
 -- Steps by the terms that they name.
 use Rattle.std.specs.Prelude.{ℕ, ◌<◌, List, length, map, All, Option}
-use Rattle.wy_term.specs.Term.{Term}
-use Rattle.wy_term.specs.Nodes.{tree_at}
+use Rattle.wy_term_text.specs.wy_term.Term.{Term}
+use Rattle.wy_term_text.specs.wy_term.Nodes.{tree_at}
 use Rattle.wy_cert.specs.declared.step.Step.{Step}
 use Rattle.wy_cert.specs.declared.step.Step.TheVariants as step
 use Rattle.wy_cert.specs.declared.step.Cert.{Cert}

@@ -1,12 +1,12 @@
 //! Terms of a line.
 ghost use Rattle.std.specs.Prelude.{◌≡◌, ◌<◌, ◌≤◌, ℕ, All, IfOk, IfSome, MatchOption, length, map};
-ghost use Rattle.wy_term.specs.Nodes.{tree_at};
+ghost use Rattle.wy_term_text.specs.wy_term.Nodes.{tree_at};
 ghost use Rattle.wy_cert.specs.Only.{IsTheOne, HasNone};
 ghost use Rattle.wy_cert.specs.Arguments.{IsCut, NoCut, IsTerm, IsArgument, AreArguments};
 
 use wy_data::scan::behind;
-use wy_term::{NoMemory, Terms};
 use wy_term_text::spell::{read_formula, read_term};
+use wy_term_text::{NoMemory, Terms};
 
 // The bytes before the first ` ; `, and those behind it if there is one.
 #[tactic(auto, using(crate::proofs::CutLemmas::cut_steps))]

@@ -38,10 +38,10 @@ impl<T: Drop> From<AllocFailed<T>> for CertFault {
     }
 }
 
-impl From<wy_term::NoMemory> for CertFault {
+impl From<wy_term_text::NoMemory> for CertFault {
     ghost from_gives = { λ _ e. e ≡ NoMemory };
 
-    fn from(_: wy_term::NoMemory) -> Self {
+    fn from(_: wy_term_text::NoMemory) -> Self {
         CertFault::NoMemory
     }
 }

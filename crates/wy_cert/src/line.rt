@@ -1,7 +1,7 @@
 //! Lines of single steps.
 ghost use Rattle.std.specs.Prelude.{◌≡◌, ◌<◌, ◌≤◌, ℕ, true, IfOk, IfSome, MatchOption, length};
-ghost use Rattle.wy_term.specs.Term.{Term};
-ghost use Rattle.wy_term.specs.Nodes.{tree_at};
+ghost use Rattle.wy_term_text.specs.wy_term.Term.{Term};
+ghost use Rattle.wy_term_text.specs.wy_term.Nodes.{tree_at};
 ghost use Rattle.wy_cert.specs.Only.{IsTheOne, HasNone};
 ghost use Rattle.wy_cert.specs.Steps.{written, IsBelow};
 ghost use Rattle.wy_cert.specs.Lines.{IsSplit, IsShut, IsChain, IsOther, IsClash, IsSum, IsCutStep, IsInst, IsWit, IsFact, IsProd, IsBody, IsStep};
@@ -12,8 +12,8 @@ use crate::step::Step;
 use crate::verb::{Verb, verb_of};
 use std::alloc::Global;
 use wy_data::scan::behind;
-use wy_term::{NoMemory, Terms};
 use wy_term_text::spell::read_formula;
+use wy_term_text::{NoMemory, Terms};
 
 /// The step that a line spells, without the line's end; `products` says whether `prod` may stand.
 #[tactic(auto, using(crate::proofs::LineLemmas::step_steps))]

@@ -5,7 +5,7 @@ ghost use Rattle.wy_cert.specs.Numbers.{IsPlaceAt, NoPlace, NoSpacedPlace, NoLas
 
 use std::alloc::Global;
 use wy_data::scan::{behind, natural};
-use wy_term::NoMemory;
+use wy_term_text::NoMemory;
 
 /// The number of a literal or of a condition that stands first, and what follows.
 #[tactic(auto, using(crate::proofs::NumberLemmas::place_steps))]

@@ -14,7 +14,7 @@ use std::alloc::Global;
 use std::collections::BTreeSet;
 use wy_data::same_bytes;
 use wy_data::scan::behind;
-use wy_term::NoMemory;
+use wy_term_text::NoMemory;
 
 /// The certificates of a file for so many conditions, in time linear in the file beside what making terms takes and
 /// looking up numbers of conditions.

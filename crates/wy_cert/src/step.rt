@@ -1,9 +1,9 @@
 //! The steps of certificates.
 ghost use Rattle.std.specs.Prelude.{◌≡◌, ℕ};
-ghost use Rattle.wy_term.specs.Term.{Term};
+ghost use Rattle.wy_term_text.specs.wy_term.Term.{Term};
 ghost use Rattle.wy_cert.specs.Steps.{written, children};
 
-use wy_term::Terms;
+use wy_term_text::Terms;
 
 /// A step. Terms and formulas are given by their numbers in the certificate's own list, literals by their numbers in the
 /// node, from 1, and multipliers and divisors are from 1 to 2^127 - 1.

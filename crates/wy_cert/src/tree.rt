@@ -8,7 +8,7 @@ use crate::fault::CertFault;
 use crate::line::step_of;
 use crate::step::Cert;
 use std::alloc::Global;
-use wy_term::Terms;
+use wy_term_text::Terms;
 
 /// The first line, without its end, and what follows the end.
 #[tactic(auto, using(crate::proofs::FirstLine::line_steps))]

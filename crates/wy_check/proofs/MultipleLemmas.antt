@@ -10,7 +10,7 @@ use Rattle.wy_lin.specs.Linear.{◌>>=◌, Linear, more, plus_parts}
 use Rattle.wy_lin.specs.TermForm.{with, multiple}
 use Rattle.wy_lin.specs.Seen.{IsOver, seen, seen_part, turned}
 use Rattle.wy_lin.proofs.SeenLemmas.{NamesOnce, all_none, plus-seen}
-use Rattle.wy_check_nodes.proofs.OverLemmas.{plus_over}
+use Rattle.wy_check_splits.proofs.wy_check_nodes_proofs.OverLemmas.{plus_over}
 use Rattle.wy_vc_laws.specs.wy_check_spec.valid.Sums.{all_zero}
 use Rattle.wy_vc_laws.specs.wy_check_spec.valid.Products.{varying, vanishes, is_multiple}
 

@@ -6,12 +6,12 @@ use Rattle.wy_term.specs.Nodes.{Plain, tree_at}
 use Rattle.wy_vc_laws.specs.wy_check_spec.judge.Node.{Literal, Node, denied_one}
 use Rattle.wy_facts.specs.Membership.{AreTypesBelow}
 use Rattle.wy_facts.specs.Seen.{Stays}
-use Rattle.wy_check_nodes.specs.declared.branch.Branch.{Branch}
-use Rattle.wy_check_nodes.specs.Seen.{seen_literal, seen_formula, seen_branch, AreOver}
-use Rattle.wy_check_nodes.specs.declared.trail.Trail.{Trail}
-use Rattle.wy_check_nodes.specs.declared.trail.Waiting.{Waiting}
-use Rattle.wy_check_nodes.specs.Trail.{second_nodes, open_nodes, nodes_of, AreWaiting, IsTrail}
-use Rattle.wy_check_nodes.proofs.SumsBranchLemmas.{branch_stays, formulas_kept, literals_kept}
+use Rattle.wy_check_splits.specs.wy_check_nodes.declared.branch.Branch.{Branch}
+use Rattle.wy_check_splits.specs.wy_check_nodes.Seen.{seen_literal, seen_formula, seen_branch, AreOver}
+use Rattle.wy_check_splits.specs.wy_check_nodes.declared.trail.Trail.{Trail}
+use Rattle.wy_check_splits.specs.wy_check_nodes.declared.trail.Waiting.{Waiting}
+use Rattle.wy_check_splits.specs.wy_check_nodes.Trail.{second_nodes, open_nodes, nodes_of, AreWaiting, IsTrail}
+use Rattle.wy_check_splits.proofs.wy_check_nodes_proofs.SumsBranchLemmas.{branch_stays, formulas_kept, literals_kept}
 
 over_take : (n i : ℕ) (ps : List (ℕ × Bool)) → AreOver n ps → AreOver n (take i ps)
 over_take n zero ps over = tt

@@ -2,8 +2,8 @@
 use Rattle.std.specs.Prelude.{◌≡◌, ℕ, ◌<◌, List, [], ◌∷◌, ◌++◌, map, All, Option, Some, None}
 use Rattle.wy_term.specs.Term.{Term}
 use Rattle.wy_vc_laws.specs.wy_check_spec.judge.Node.{Node, added, denied_one, with_formulas}
-use Rattle.wy_check_nodes.specs.declared.trail.Trail.{Trail}
-use Rattle.wy_check_nodes.specs.Trail.{nodes_of}
+use Rattle.wy_check_splits.specs.wy_check_nodes.declared.trail.Trail.{Trail}
+use Rattle.wy_check_splits.specs.wy_check_nodes.Trail.{nodes_of}
 use Rattle.wy_check.specs.declared.outcome.Outcome.{Outcome}
 use Rattle.wy_check.specs.declared.outcome.Outcome.TheVariants.{Closes, Adds, Splits}
 

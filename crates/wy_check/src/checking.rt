@@ -11,7 +11,7 @@ ghost use Rattle.wy_check.specs.declared.checking.Checked.TheVariants.{Yes};
 
 use crate::turning::turned;
 use wy_cert::Cert;
-use wy_check_nodes::{first_branch, one_node};
+use wy_check_splits::{first_branch, one_node};
 use wy_term::{Cond, NoMemory, Terms};
 
 /// Whether a certificate is valid.

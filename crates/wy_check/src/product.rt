@@ -7,7 +7,7 @@ ghost use Rattle.wy_facts.specs.Made.{made_two, is_at_most};
 ghost use Rattle.wy_facts.specs.Seen.{Stays};
 ghost use Rattle.wy_lin.specs.TermForm.{form_of};
 ghost use Rattle.wy_lin.specs.Seen.{IsOver, linear_form, seen_form};
-ghost use Rattle.wy_check_nodes.specs.Seen.{seen_branch, IsBranch};
+ghost use Rattle.wy_check_splits.specs.wy_check_nodes.Seen.{seen_branch, IsBranch};
 ghost use Rattle.wy_vc_laws.specs.wy_check_spec.valid.Sums.{zero_term};
 ghost use Rattle.wy_vc_laws.specs.wy_check_spec.valid.Products.{Affine as Factors, as_product, product_bound, product_stated};
 ghost use Rattle.wy_check.specs.Seen.{four, numbers_of, IsAffine};
@@ -15,7 +15,7 @@ ghost use Rattle.wy_check.specs.Stated.{seen_factors, seen_forms, AreFormsOver, 
 
 use crate::affine::{Affine, relation};
 use crate::whole::product;
-use wy_check_nodes::{Branch, form_at};
+use wy_check_splits::{Branch, form_at};
 use wy_lin::{Form, term_form};
 use wy_term::{NoMemory, Node, Terms};
 

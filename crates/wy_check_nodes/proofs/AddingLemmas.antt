@@ -1,8 +1,8 @@
 -- What a list of formulas that are to be added leads to.
 use Rattle.std.proofs.Common.{◌≡◌, ◌<◌, ℕ, suc, List, [], ◌∷◌, ◌++◌, get_or, Bool, true, false, Result, Ok, Err, refl, sym, ap, subst, ◌∙◌, arith}
 use Rattle.std.specs.Prelude.{IfOk}
-use Rattle.wy_term.specs.Term.{Term, Of, no_parts, part, denied, all_of, any_of}
-use Rattle.wy_term.specs.Nodes.{parts_at}
+use Rattle.wy_check_spec.specs.wy_term.Term.{Term, Of, no_parts, part, denied, all_of, any_of}
+use Rattle.wy_check_spec.specs.wy_term.Nodes.{parts_at}
 use Rattle.wy_check_spec.specs.judge.Node.{Node, added, added_denial, denied_one, added_all, denied_all}
 use Rattle.wy_check_nodes.specs.Seen.{AreOver, AreBelow}
 use Rattle.wy_check_nodes.specs.Tasks.{after_all, tasks_of}

@@ -5,7 +5,7 @@ use Rattle.std.specs.Prelude.{slice_get, IfSome}
 use Rattle.std.proofs.lemmas.List.{append-nil}
 use Rattle.wy_lemmas.proofs.Choices.{cond_or}
 use Rattle.wy_lemmas.proofs.Lists.{map_pushed as map_last}
-use Rattle.wy_term.specs.Term.{Term}
+use Rattle.wy_check_spec.specs.wy_term.Term.{Term}
 use Rattle.wy_check_spec.specs.judge.Node.{Literal, has_literal, has_formula, Node, with_literal, with_pending}
 use Rattle.wy_check_nodes.specs.Seen.{seen_literal, seen_formula, AreOver, IsBare, AreBare, same_signed, StartsWith}
 use Rattle.wy_check_nodes.proofs.NameLemmas.{NamesOnce, one_literal, one_formula}

@@ -5,13 +5,13 @@ use Rattle.std.proofs.lemmas.Bool.Decides.{Decides-int_eq}
 use Rattle.std.proofs.lemmas.List.{drop_more}
 use Rattle.wy_check_nodes.proofs.FormLemmas.{all_pushed}
 use Rattle.wy_lemmas.proofs.Lists.{append_mid, map_pushed}
-use Rattle.wy_term.specs.Term.{Term, Number, mul}
-use Rattle.wy_term.specs.Data.{quotient_down}
-use Rattle.wy_term.specs.Nodes.{Plain, tree_at}
+use Rattle.wy_check_spec.specs.wy_term.Term.{Term, Number, mul}
+use Rattle.wy_check_spec.specs.wy_term.Data.{quotient_down}
+use Rattle.wy_check_spec.specs.wy_term.Nodes.{Plain, tree_at}
 use Rattle.wy_check_spec.specs.wy_facts.Made.{made_two}
 use Rattle.wy_check_spec.specs.wy_facts.Seen.{terms_at, AreBelow, Stays}
 use Rattle.wy_check_spec.proofs.wy_facts_proofs.StepLemmas.{terms_kept, below_kept}
-use Rattle.wy_lin.specs.Seen.{seen_part}
+use Rattle.wy_check_spec.specs.wy_lin.Seen.{seen_part}
 use Rattle.wy_check_spec.specs.valid.Sums.{divided}
 
 zero_test : (z : ℤ) → z ≡ pos 0 → int_eq z (pos 0) ≡ true

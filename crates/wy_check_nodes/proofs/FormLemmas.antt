@@ -1,13 +1,13 @@
 -- Forms stand for the same where the list of terms grows; the form of a bound's denial.
 use Rattle.std.proofs.Common.{◌≡◌, ◌<◌, ◌≤◌, ℕ, suc, List, [], ◌∷◌, ◌++◌, All, map, length, get_or, ℤ, refl, sym, ap, subst, ◌∙◌, arith}
 use Rattle.wy_lemmas.proofs.Lists.{map_pushed, first_of, rest_of}
-use Rattle.wy_term.specs.Term.{Term}
-use Rattle.wy_term.specs.Nodes.{Plain, tree_at}
+use Rattle.wy_check_spec.specs.wy_term.Term.{Term}
+use Rattle.wy_check_spec.specs.wy_term.Nodes.{Plain, tree_at}
 use Rattle.wy_check_spec.specs.wy_facts.Seen.{Stays}
-use Rattle.wy_lin.specs.declared.linear.Form.{Form}
-use Rattle.wy_lin.specs.Linear.{Linear}
-use Rattle.wy_lin.specs.Seen.{IsOver, linear_form, seen_form, seen_part}
-use Rattle.wy_lin.proofs.SeenLemmas.{all_none, all_more}
+use Rattle.wy_check_spec.specs.wy_lin.declared.linear.Form.{Form}
+use Rattle.wy_check_spec.specs.wy_lin.Linear.{Linear}
+use Rattle.wy_check_spec.specs.wy_lin.Seen.{IsOver, linear_form, seen_form, seen_part}
+use Rattle.wy_check_spec.proofs.wy_lin_proofs.SeenLemmas.{all_none, all_more}
 
 parts_kept : (old new : List Plain) (ps : List (ℤ × ℕ)) → Stays old new → All (λ (p : ℤ × ℕ). p.1 < length old) ps → map (seen_part (tree_at new)) ps ≡ map (seen_part (tree_at old)) ps
 parts_kept old new [] stays all = refl

@@ -3,16 +3,16 @@ use Rattle.std.proofs.Common.{◌≡◌, ◌<◌, ◌≤◌, ◌+◌, ℕ, zero,
 use Rattle.std.specs.Prelude.{IfSome, option_map}
 use Rattle.wy_lemmas.proofs.Lists.{append_mid, first_of, rest_of}
 use Rattle.wy_lemmas.proofs.Options.{some, some_same as some_is}
-use Rattle.wy_term.specs.Term.{Term}
+use Rattle.wy_check_spec.specs.wy_term.Term.{Term}
 use Rattle.wy_check_spec.specs.judge.Node.{Literal}
-use Rattle.wy_lin.specs.declared.linear.Form.{Form}
-use Rattle.wy_lin.specs.declared.arithmetic.Factor.TheVariants.{Times}
-use Rattle.wy_lin.specs.Linear.{◌>>=◌, Linear, nothing, plus}
-use Rattle.wy_lin.specs.TermForm.{with}
-use Rattle.wy_lin.specs.Combination.{form_at, combined_from, combined}
-use Rattle.wy_lin.specs.Seen.{IsOver, linear_form, seen, seen_form}
-use Rattle.wy_lin.proofs.OptionLemmas.{bind_some}
-use Rattle.wy_lin.proofs.SeenLemmas.{NamesOnce, names_once, all_none, all_more, plus-seen}
+use Rattle.wy_check_spec.specs.wy_lin.declared.linear.Form.{Form}
+use Rattle.wy_check_spec.specs.wy_lin.declared.arithmetic.Factor.TheVariants.{Times}
+use Rattle.wy_check_spec.specs.wy_lin.Linear.{◌>>=◌, Linear, nothing, plus}
+use Rattle.wy_check_spec.specs.wy_lin.TermForm.{with}
+use Rattle.wy_check_spec.specs.wy_lin.Combination.{form_at, combined_from, combined}
+use Rattle.wy_check_spec.specs.wy_lin.Seen.{IsOver, linear_form, seen, seen_form}
+use Rattle.wy_check_spec.proofs.wy_lin_proofs.OptionLemmas.{bind_some}
+use Rattle.wy_check_spec.proofs.wy_lin_proofs.SeenLemmas.{NamesOnce, names_once, all_none, all_more, plus-seen}
 use Rattle.wy_check_spec.specs.valid.Sums.{plus_literal, summed_from, summed}
 use Rattle.wy_check_spec.specs.valid.Sums as sums
 use Rattle.wy_check_nodes.specs.Gathered.{weighed, prefixed, gathered, placed}

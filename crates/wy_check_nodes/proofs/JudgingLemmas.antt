@@ -4,8 +4,8 @@ use Rattle.std.proofs.lemmas.Bool.{eqb-true}
 use Rattle.std.proofs.lemmas.List.{drop_more}
 use Rattle.std.specs.Prelude.{slice_get, IfSome}
 use Rattle.wy_lemmas.proofs.Lists.{get_here}
-use Rattle.wy_term.specs.Term.{Term, Of, Parts, part, no_parts, denied, all_of, any_of}
-use Rattle.wy_term.specs.Nodes.{parts_at}
+use Rattle.wy_check_spec.specs.wy_term.Term.{Term, Of, Parts, part, no_parts, denied, all_of, any_of}
+use Rattle.wy_check_spec.specs.wy_term.Nodes.{parts_at}
 use Rattle.wy_check_spec.specs.declared.judge.verdict.Verdict.{Verdict}
 use Rattle.wy_check_spec.specs.declared.judge.verdict.Verdict.TheVariants.{Yes, No, Open}
 use Rattle.wy_check_spec.specs.judge.Node.{Literal}

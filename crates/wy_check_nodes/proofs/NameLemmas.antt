@@ -3,9 +3,9 @@ use Rattle.std.proofs.Common.{◌≡◌, ◌<◌, ◌&&◌, ℕ, Bool, true, fal
 use Rattle.std.specs.Bool.{beq}
 use Rattle.std.proofs.lemmas.Bool.{eqb-true}
 use Rattle.wy_lemmas.proofs.Choices.{and_false, and_end as and_true, eqb_itself as eqb_self}
-use Rattle.wy_term.specs.Term.{Term, Not}
-use Rattle.wy_term.specs.Same.{same_term}
-use Rattle.wy_term.proofs.SameLemmas.{terms_are, terms_self}
+use Rattle.wy_check_spec.specs.wy_term.Term.{Term, Not}
+use Rattle.wy_check_spec.specs.wy_term.Same.{same_term}
+use Rattle.wy_check_spec.proofs.wy_term_proofs.SameLemmas.{terms_are, terms_self}
 use Rattle.wy_check_spec.specs.judge.Node.{same_literal}
 use Rattle.wy_check_nodes.specs.Seen.{seen_literal, signed, seen_formula, is_denied, IsBare, same_signed}
 

@@ -2,11 +2,11 @@
 use Rattle.std.proofs.Common.{◌≡◌, ◌<◌, ℕ, List, [], ◌∷◌, All, Bool, true, false, cond, eqb, ℤ, Some, subst}
 use Rattle.wy_lemmas.proofs.Lists.{first_of, rest_of}
 use Rattle.wy_lemmas.proofs.Options.{some_same as some_is}
-use Rattle.wy_lin.specs.declared.arithmetic.Factor.{Factor}
-use Rattle.wy_lin.specs.Linear.{◌>>=◌, more, Linear, coefficient, with_coefficient, plus_part, plus_parts, plus}
-use Rattle.wy_lin.specs.Seen.{IsOver}
-use Rattle.wy_lin.proofs.OptionLemmas.{bind_some}
-use Rattle.wy_lin.proofs.SeenLemmas.{all_none, all_more}
+use Rattle.wy_check_spec.specs.wy_lin.declared.arithmetic.Factor.{Factor}
+use Rattle.wy_check_spec.specs.wy_lin.Linear.{◌>>=◌, more, Linear, coefficient, with_coefficient, plus_part, plus_parts, plus}
+use Rattle.wy_check_spec.specs.wy_lin.Seen.{IsOver}
+use Rattle.wy_check_spec.proofs.wy_lin_proofs.OptionLemmas.{bind_some}
+use Rattle.wy_check_spec.proofs.wy_lin_proofs.SeenLemmas.{all_none, all_more}
 
 abbrev AreOver : ℕ → List (ℤ × ℕ) → Type 0
 AreOver n ps = All (λ (p : ℤ × ℕ). p.1 < n) ps

@@ -4,7 +4,7 @@ use Rattle.std.specs.Prelude.{slice_get}
 use Rattle.wy_check_spec.specs.judge.Node.{Node}
 use Rattle.wy_check_nodes.specs.Seen.{seen_formula}
 use Rattle.wy_lemmas.proofs.Lists.{drop_end, drop_here}
-use Rattle.wy_term.specs.Term.{Term}
+use Rattle.wy_check_spec.specs.wy_term.Term.{Term}
 
 -- none more
 pub end_led : (F : Node → List Term → Node) → ((node : Node) → F node [] ≡ node) → (at : ℕ → Term) (ps : List (ℕ × Bool)) (i : ℕ) (now whole : Node) → length ps ≤ i

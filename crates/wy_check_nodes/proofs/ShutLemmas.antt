@@ -4,9 +4,9 @@ use Rattle.std.specs.Bool.{beq}
 use Rattle.std.specs.Prelude.{slice_get}
 use Rattle.wy_lemmas.proofs.Choices.{bits_self as bit_self, both_parts as both, bits_are, or_left as first_true, both_true as two_true, or_right as second_true}
 use Rattle.wy_lemmas.proofs.Lists.{get_here as drop_here}
-use Rattle.wy_term.proofs.SameLemmas.{terms_are, terms_self}
-use Rattle.wy_term.specs.Same.{same_term}
-use Rattle.wy_term.specs.Term.{Term}
+use Rattle.wy_check_spec.proofs.wy_term_proofs.SameLemmas.{terms_are, terms_self}
+use Rattle.wy_check_spec.specs.wy_term.Same.{same_term}
+use Rattle.wy_check_spec.specs.wy_term.Term.{Term}
 use Rattle.wy_check_spec.specs.judge.Node.{Literal, has_literal, same_literal}
 use Rattle.wy_check_nodes.specs.Denied.{any_denied}
 use Rattle.wy_check_nodes.specs.Seen.{seen_literal}

@@ -1,7 +1,7 @@
 -- A formula isn't judged no where one of its members isn't.
 use Rattle.std.proofs.Common.{◌≡◌, ◌<◌, ◌∙◌, ℕ, zero, suc, List, [], ◌∷◌, length, get_or, Bool, true, false, inl, inr, refl, ap, arith}
-use Rattle.wy_term.specs.Term.{Term, Of, Parts, part, no_parts, all_of, any_of}
-use Rattle.wy_term.specs.Nodes.{parts_at}
+use Rattle.wy_check_spec.specs.wy_term.Term.{Term, Of, Parts, part, no_parts, all_of, any_of}
+use Rattle.wy_check_spec.specs.wy_term.Nodes.{parts_at}
 use Rattle.wy_check_spec.specs.declared.judge.verdict.Verdict.{Verdict}
 use Rattle.wy_check_spec.specs.declared.judge.verdict.Verdict.TheVariants.{Yes, No, Open}
 use Rattle.wy_check_spec.specs.judge.Node.{Literal}

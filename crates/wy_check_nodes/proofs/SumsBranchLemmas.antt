@@ -1,6 +1,6 @@
 -- A node stands for the same where the list of terms grows.
 use Rattle.std.proofs.Common.{◌≡◌, ◌≤◌, ℕ, List, [], ◌∷◌, map, length, Bool, refl, ap, ◌∙◌, arith}
-use Rattle.wy_term.specs.Nodes.{Plain, tree_at}
+use Rattle.wy_check_spec.specs.wy_term.Nodes.{Plain, tree_at}
 use Rattle.wy_check_spec.specs.wy_facts.Seen.{Stays}
 use Rattle.wy_check_nodes.specs.declared.branch.Branch.{Branch}
 use Rattle.wy_check_nodes.specs.Seen.{seen_literal, seen_formula, is_denied, AreOver, AreBare, IsBranch, seen_branch}

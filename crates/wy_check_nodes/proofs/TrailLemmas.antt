@@ -2,7 +2,7 @@
 use Rattle.std.proofs.Common.{◌≡◌, ◌<◌, ◌≤◌, ◌+◌, ℕ, zero, suc, List, [], ◌∷◌, map, take, length, refl, ap, ◌∙◌, arith}
 use Rattle.std.proofs.lemmas.List.{take-append-le, length-append}
 use Rattle.wy_lemmas.proofs.Equations.{Pairs}
-use Rattle.wy_term.specs.Term.{Term}
+use Rattle.wy_check_spec.specs.wy_term.Term.{Term}
 use Rattle.wy_check_spec.specs.judge.Node.{Node, denied_one}
 use Rattle.wy_check_nodes.specs.declared.branch.Branch.{Branch}
 use Rattle.wy_check_nodes.specs.Seen.{seen_literal, seen_formula, seen_branch, StartsWith, Extends}

@@ -1,6 +1,6 @@
 -- Which literals are denied and hold too, and which formulas show at once that an `or` or a denied `and` isn't judged no.
 use Rattle.std.specs.Prelude.{◌≡◌, ◌⊎◌, List, [], ◌∷◌, ◌&&◌, ◌||◌, Bool, true, false, not}
-use Rattle.wy_term.specs.Term.{Parts, no_parts, part}
+use Rattle.wy_check_spec.specs.wy_term.Term.{Parts, no_parts, part}
 use Rattle.wy_check_spec.specs.judge.Node.{Literal, has_literal}
 use Rattle.wy_check_spec.specs.judge.Judgement.{judged}
 use Rattle.wy_check_nodes.specs.Judged.{fails}

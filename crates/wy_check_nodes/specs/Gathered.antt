@@ -1,7 +1,7 @@
 -- The forms of the literals that a sum names, before they are added up.
 use Rattle.std.specs.Prelude.{ℕ, suc, ◌==◌, List, [], ◌∷◌, ◌++◌, Bool, true, false, if◌then◌else◌, Option, Some, None}
-use Rattle.wy_term.specs.Term.{Term, Of, no_parts, part, at_most}
-use Rattle.wy_lin.specs.Linear.{◌>>=◌, Linear}
+use Rattle.wy_check_spec.specs.wy_term.Term.{Term, Of, no_parts, part, at_most}
+use Rattle.wy_check_spec.specs.wy_lin.Linear.{◌>>=◌, Linear}
 use Rattle.wy_check_spec.specs.judge.Node.{Literal}
 use Rattle.wy_check_spec.specs.valid.Sums.{form_at}
 

@@ -1,7 +1,7 @@
 -- What is known of formulas, and which pending formulas fail.
 use Rattle.std.specs.Prelude.{◌≡◌, ℕ, List, [], ◌∷◌, ◌||◌, Bool, true, false, not, Some, nat_eq}
 use Rattle.std.specs.HashMap.{get}
-use Rattle.wy_term.specs.Term.{Term, Of, denied, all_of, any_of}
+use Rattle.wy_check_spec.specs.wy_term.Term.{Term, Of, denied, all_of, any_of}
 use Rattle.wy_check_spec.specs.declared.judge.verdict.Verdict.{Verdict}
 use Rattle.wy_check_spec.specs.declared.judge.verdict.Verdict.TheVariants.{Yes, No, Open}
 use Rattle.wy_check_spec.specs.judge.Node.{Literal}

@@ -1,8 +1,8 @@
 -- What the code's nodes stand for, where `at` gives the term of a number.
 use Rattle.std.specs.Prelude.{◌≡◌, ℕ, ◌<◌, List, [], ◌∷◌, ◌++◌, ◌-◌, ◌==◌, ◌&&◌, Bool, true, false, Option, None, if◌then◌else◌, slice_get, map, All, length, nat_eq}
 use Rattle.std.specs.Bool.{beq}
-use Rattle.wy_term.specs.Term.{Term, Of, no_parts, part, Not, denied}
-use Rattle.wy_term.specs.Nodes.{Plain, tree_at}
+use Rattle.wy_check_spec.specs.wy_term.Term.{Term, Of, no_parts, part, Not, denied}
+use Rattle.wy_check_spec.specs.wy_term.Nodes.{Plain, tree_at}
 use Rattle.wy_check_spec.specs.judge.Node.{Literal, Node}
 use Rattle.wy_check_nodes.specs.declared.branch.Branch.{Branch}
 

@@ -1,6 +1,6 @@
 -- What a list of formulas that are to be added leads to.
 use Rattle.std.specs.Prelude.{ℕ, List, [], ◌∷◌, Bool, true, false}
-use Rattle.wy_term.specs.Term.{Term}
+use Rattle.wy_check_spec.specs.wy_term.Term.{Term}
 use Rattle.wy_check_spec.specs.judge.Node.{Node, added, denied_one}
 
 -- a node with a formula, or with the denial of one

@@ -1,7 +1,7 @@
 -- Which nodes are still to be closed.
 use Rattle.std.specs.Prelude.{ℕ, ◌<◌, ◌≤◌, List, [], ◌∷◌, Bool, true, false, map, take, length}
-use Rattle.wy_term.specs.Term.{Term}
-use Rattle.wy_term.specs.Nodes.{Plain}
+use Rattle.wy_check_spec.specs.wy_term.Term.{Term}
+use Rattle.wy_check_spec.specs.wy_term.Nodes.{Plain}
 use Rattle.wy_check_spec.specs.judge.Node.{Node, denied_one}
 use Rattle.wy_check_nodes.specs.declared.branch.Branch.{Branch}
 use Rattle.wy_check_nodes.specs.Seen.{seen_literal, seen_formula, seen_branch, IsBranch}

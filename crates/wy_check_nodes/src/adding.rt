@@ -1,9 +1,9 @@
 //! What a formula adds to a node.
 ghost use Rattle.std.specs.Prelude.{◌≡◌, ◌<◌, ◌++◌, ◌∷◌, [], ℕ, List, true, false, if◌then◌else◌, map, length, All, IfOk, OnOk};
-ghost use Rattle.wy_term.specs.Nodes.{Plain, tree_at};
-ghost use Rattle.wy_term.specs.Term.{Term};
+ghost use Rattle.wy_check_spec.specs.wy_term.Nodes.{Plain, tree_at};
+ghost use Rattle.wy_check_spec.specs.wy_term.Term.{Term};
 ghost use Rattle.wy_check_spec.specs.judge.Node as node;
-ghost use Rattle.wy_term.specs.Condition.{condition_of};
+ghost use Rattle.wy_check_spec.specs.wy_term.Condition.{condition_of};
 ghost use Rattle.wy_check_spec.specs.judge.Node.{with_atom, added, added_denial, denied_one, with_formulas, first_node};
 ghost use Rattle.wy_check_nodes.specs.Seen.{seen_branch, seen_formula, signed, is_denied, AreOver, IsBranch, AreBelow, Extends};
 ghost use Rattle.wy_check_nodes.specs.Tasks.{tasks_of, after_one, after_all};
@@ -13,7 +13,7 @@ use crate::connectives::is_atom;
 use indexmap::IndexSet;
 use std::alloc::Global;
 use std::collections::VecDeque;
-use wy_term::{Cond, NoMemory, Node, Terms};
+use wy_check_spec::{Cond, NoMemory, Node, Terms};
 
 // Formulas that are to be added, each a formula's number and whether it holds, next first.
 type Tasks = VecDeque<(u32, bool)>;

@@ -1,13 +1,13 @@
 //! Nodes of a certificate's tree.
 ghost use Rattle.std.specs.Prelude.{◌≡◌, ◌<◌, ℕ, List, true, false, Some, length, take, slice_get, option_map, IfSome, OnOk};
-ghost use Rattle.wy_term.specs.Term.{Term};
-ghost use Rattle.wy_term.specs.Nodes.{Plain, tree_at};
+ghost use Rattle.wy_check_spec.specs.wy_term.Term.{Term};
+ghost use Rattle.wy_check_spec.specs.wy_term.Nodes.{Plain, tree_at};
 ghost use Rattle.wy_check_spec.specs.judge.Node.{bare, has_literal, with_literal, with_pending};
 ghost use Rattle.wy_check_nodes.specs.Seen.{seen_branch, seen_literal, seen_formula, is_denied, literal_numbered, IsBranch, Extends};
 
 use indexmap::IndexSet;
 use std::alloc::Global;
-use wy_term::{NoMemory, Terms};
+use wy_check_spec::{NoMemory, Terms};
 
 /// A node: literals, each an atom's number and whether it holds, and pending formulas, each a formula's number and whether
 /// it holds, where false stands for the formula's denial. Both are in the order in which they came, each once.

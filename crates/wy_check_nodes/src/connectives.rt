@@ -1,10 +1,10 @@
 //! Which formulas are made of others.
 ghost use Rattle.std.specs.Prelude.{◌≡◌, ◌<◌, length};
-ghost use Rattle.wy_term.specs.Nodes.{tree_at};
+ghost use Rattle.wy_check_spec.specs.wy_term.Nodes.{tree_at};
 ghost use Rattle.wy_check_spec.specs.judge.Node.{is_atom};
 ghost use Rattle.wy_check_nodes.specs.Judged.{is_connective};
 
-use wy_term::{Node, Terms};
+use wy_check_spec::{Node, Terms};
 
 /// Whether a formula is an atom, in constant time.
 pub fn is_atom(terms: &Terms, f: u32) -> bool

@@ -1,20 +1,19 @@
 //! What a cut states: a sum of literals' forms, divided and its number rounded down, is at least 0.
 ghost use Rattle.std.specs.Prelude.{◌≡◌, ◌<◌, ◌/◌, ◌^◌, pos, ℕ, All, map, length, option_map, IfOk, IfSome};
-ghost use Rattle.wy_term.specs.Term.{Term, Number, mul};
+ghost use Rattle.wy_check_spec.specs.wy_term.Term.{Term, Number, mul};
 ghost use Rattle.wy_check_spec.specs.wy_facts.Made.{made_two};
-ghost use Rattle.wy_term.specs.Data.{quotient_down};
-ghost use Rattle.wy_term.specs.Folding.{folded};
-ghost use Rattle.wy_term.specs.Nodes.{plain, grown, tree_at, HasPartsBelow};
+ghost use Rattle.wy_check_spec.specs.wy_term.Data.{quotient_down};
+ghost use Rattle.wy_check_spec.specs.wy_term.Folding.{folded};
+ghost use Rattle.wy_check_spec.specs.wy_term.Nodes.{plain, grown, tree_at, HasPartsBelow};
 ghost use Rattle.wy_check_nodes.specs.Seen.{seen_branch, IsBranch};
 ghost use Rattle.wy_check_spec.specs.wy_facts.Seen.{terms_at, AreBelow, Stays};
-ghost use Rattle.wy_lin.specs.Linear.{◌>>=◌ as bind};
-ghost use Rattle.wy_lin.specs.Seen.{seen_form, seen_part, linear_form, IsOver};
+ghost use Rattle.wy_check_spec.specs.wy_lin.Linear.{◌>>=◌ as bind};
+ghost use Rattle.wy_check_spec.specs.wy_lin.Seen.{seen_form, seen_part, linear_form, IsOver};
 ghost use Rattle.wy_check_spec.specs.valid.Sums.{divides, divides_all, divided, added_up, total_of, cut_bound, cut_of, summed};
 
 use crate::branch::Branch;
 use crate::summed::form_of_sum;
-use wy_lin::Form;
-use wy_term::{NoMemory, Node, Terms};
+use wy_check_spec::{Form, NoMemory, Node, Terms};
 
 // ---- numbers
 

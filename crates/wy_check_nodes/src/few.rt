@@ -1,6 +1,6 @@
 //! What literals say of an atom, and of a connective of few atoms.
 ghost use Rattle.std.specs.Prelude.{◌≡◌, ◌<◌, length, IfSome};
-ghost use Rattle.wy_term.specs.Nodes.{tree_at, parts_at};
+ghost use Rattle.wy_check_spec.specs.wy_term.Nodes.{tree_at, parts_at};
 ghost use Rattle.wy_check_spec.specs.judge.Judgement.{turned, of_atom, judged, judged_all, judged_any};
 ghost use Rattle.wy_check_nodes.specs.Seen.{seen_branch, IsBranch, AreBelow};
 
@@ -8,7 +8,7 @@ use crate::branch::{Branch, has_literal};
 use crate::connectives::is_connective;
 use crate::verdicts::{fails, join, meet, turn};
 use wy_check_spec::judge::Verdict;
-use wy_term::{Node, Terms};
+use wy_check_spec::{Node, Terms};
 
 /// What the literals of a node say of an atom, in constant time on average.
 pub fn of_atom(terms: &Terms, branch: &Branch, atom: u32) -> Verdict

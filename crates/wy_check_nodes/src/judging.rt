@@ -1,8 +1,8 @@
 //! What literals say of a formula.
 ghost use Rattle.std.specs.Prelude.{◌≡◌, ◌<◌, nat_eq, ℕ, List, Some, length, slice_get, IfOk, IfSome, OnOk};
 ghost use Rattle.std.specs.HashMap.{get};
-ghost use Rattle.wy_term.specs.Term.{Term};
-ghost use Rattle.wy_term.specs.Nodes.{tree_at, parts_at};
+ghost use Rattle.wy_check_spec.specs.wy_term.Term.{Term};
+ghost use Rattle.wy_check_spec.specs.wy_term.Nodes.{tree_at, parts_at};
 ghost use Rattle.wy_check_spec.specs.judge.Node.{Literal};
 ghost use Rattle.wy_check_spec.specs.judge.Judgement.{turned, judged, judged_all, judged_any};
 ghost use Rattle.wy_check_nodes.specs.Seen.{seen_branch, IsBranch, AreBelow};
@@ -15,7 +15,7 @@ use crate::verdicts::{fails, join, meet, turn};
 use std::alloc::Global;
 use std::collections::HashMap;
 use wy_check_spec::judge::Verdict;
-use wy_term::{NoMemory, Node, Terms};
+use wy_check_spec::{NoMemory, Node, Terms};
 
 /// What a node's literals are known to say of formulas, by their numbers.
 #[derive(Drop)]

@@ -44,3 +44,7 @@ pub use shut::is_shut;
 pub use summed::{form_at, form_of_sum};
 pub use trail::{Trail, close, grow, one_node, split};
 pub use verdicts::fails;
+pub use wy_check_spec::{
+    Kind, NoMemory, Node, Quantifier, Taken, Terms, made_of, new_number, none_taken, parts_of,
+    subst, take_numbers, with_parts,
+};

@@ -1,16 +1,15 @@
 //! Which forms can't be at least 0.
 ghost use Rattle.std.specs.Prelude.{◌≡◌, ℕ, map, IfOk};
-ghost use Rattle.wy_term.specs.Term.{Term};
-ghost use Rattle.wy_term.specs.Nodes.{tree_at};
+ghost use Rattle.wy_check_spec.specs.wy_term.Term.{Term};
+ghost use Rattle.wy_check_spec.specs.wy_term.Nodes.{tree_at};
 ghost use Rattle.wy_check_spec.specs.wy_facts.Seen.{Stays};
 ghost use Rattle.wy_check_nodes.specs.Seen.{seen_branch, IsBranch};
-ghost use Rattle.wy_lin.specs.Seen.{seen_form, seen_part};
+ghost use Rattle.wy_check_spec.specs.wy_lin.Seen.{seen_form, seen_part};
 ghost use Rattle.wy_check_spec.specs.valid.Sums.{all_zero, refutes, summed, is_refuting};
 
 use crate::branch::Branch;
 use crate::summed::form_of_sum;
-use wy_lin::Form;
-use wy_term::{NoMemory, Terms};
+use wy_check_spec::{Form, NoMemory, Terms};
 
 // Whether no variable is left.
 fn all_zero(parts: &[(i128, u32)]) -> bool

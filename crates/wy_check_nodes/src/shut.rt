@@ -1,13 +1,13 @@
 //! Whether a node can't be.
 ghost use Rattle.std.specs.Prelude.{◌≡◌, ◌<◌, ◌&&◌, not, true, length, IfOk};
-ghost use Rattle.wy_term.specs.Nodes.{tree_at};
+ghost use Rattle.wy_check_spec.specs.wy_term.Nodes.{tree_at};
 ghost use Rattle.wy_check_spec.specs.judge.Node.{has_literal};
 ghost use Rattle.wy_check_nodes.specs.Seen.{seen_branch, seen_literal, IsBranch};
 ghost use Rattle.wy_check_spec.specs.valid.Literals.{stands_both_ways, is_shut};
 
 use crate::branch::{Branch, has_literal, nth_literal};
 use crate::judging::is_refuted;
-use wy_term::{NoMemory, Terms};
+use wy_check_spec::{NoMemory, Terms};
 
 // Whether a literal is denied, and its atom holds too, in constant time on average.
 fn holds_too(terms: &Terms, branch: &Branch, atom: u32, holds: bool) -> bool

@@ -6,12 +6,12 @@ ghost use Rattle.wy_check_spec.specs.judge.Judgement.{judged};
 ghost use Rattle.wy_check_nodes.specs.Denied.{HasStanding};
 ghost use Rattle.wy_check_nodes.specs.Judged.{fails};
 ghost use Rattle.wy_check_nodes.specs.Seen.{seen_branch, IsBranch, AreBelow};
-ghost use Rattle.wy_term.specs.Nodes.{tree_at, parts_at};
+ghost use Rattle.wy_check_spec.specs.wy_term.Nodes.{tree_at, parts_at};
 
 use crate::branch::Branch;
 use crate::few::of_few;
 use crate::verdicts::fails;
-use wy_term::{Node, Terms};
+use wy_check_spec::{Node, Terms};
 
 // Whether a formula of few atoms, or its denial, isn't judged no.
 fn stands(terms: &Terms, branch: &Branch, f: u32, holds: bool) -> bool

@@ -1,18 +1,17 @@
 //! Sums of multiples of literals' forms.
 ghost use Rattle.std.specs.Prelude.{◌≡◌, ◌<◌, List, Some, length, map, All, option_map, IfOk, IfSome};
-ghost use Rattle.wy_term.specs.Nodes.{tree_at};
+ghost use Rattle.wy_check_spec.specs.wy_term.Nodes.{tree_at};
 ghost use Rattle.wy_check_spec.specs.judge.Node.{Literal};
 ghost use Rattle.wy_check_spec.specs.wy_facts.Seen.{Stays};
 ghost use Rattle.wy_check_nodes.specs.Seen.{seen_branch, IsBranch};
-ghost use Rattle.wy_lin.specs.Seen.{IsOver, linear_form, seen_form};
-ghost use Rattle.wy_lin.specs.TermForm.{form_of_denial, form_of_literal};
+ghost use Rattle.wy_check_spec.specs.wy_lin.Seen.{IsOver, linear_form, seen_form};
+ghost use Rattle.wy_check_spec.specs.wy_lin.TermForm.{form_of_denial, form_of_literal};
 ghost use Rattle.wy_check_spec.specs.valid.Sums.{form_at, summed};
 ghost use Rattle.wy_check_nodes.specs.Gathered.{is_bound, weighed, gathered, placed};
 
 use crate::branch::{Branch, literal_at};
 use std::alloc::Global;
-use wy_lin::{Form, combine, form};
-use wy_term::{NoMemory, Node, Terms};
+use wy_check_spec::{Form, NoMemory, Node, Terms, combine, form};
 
 // ---- one literal
 

@@ -1,6 +1,6 @@
 //! The nodes of a certificate's tree that are still to be closed.
 ghost use Rattle.std.specs.Prelude.{◌≡◌, ◌<◌, ◌∷◌, [], List, true, length, IfOk};
-ghost use Rattle.wy_term.specs.Nodes.{Plain, tree_at};
+ghost use Rattle.wy_check_spec.specs.wy_term.Nodes.{Plain, tree_at};
 ghost use Rattle.wy_check_spec.specs.judge.Node.{added, denied_one, with_formulas};
 ghost use Rattle.wy_check_spec.specs.wy_facts.Seen.{terms_at, AreBelow};
 ghost use Rattle.wy_check_nodes.specs.Seen.{seen_branch, IsBranch};
@@ -10,7 +10,7 @@ use crate::adding::{add, add_all};
 use crate::branch::{Branch, back_to};
 use std::alloc::Global;
 use std::collections::VecDeque;
-use wy_term::{NoMemory, Terms};
+use wy_check_spec::{NoMemory, Terms};
 
 /// The second node of a split that waits until the first is closed: how many literals and pending formulas there were at
 /// the split, and its atom, which the second node denies.

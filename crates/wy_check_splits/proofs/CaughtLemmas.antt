@@ -1,14 +1,14 @@
 -- A bound name that stands free in a formula stands in it, and is one of its free names.
 use Rattle.std.proofs.Common.{◌≡◌, ◌||◌, ◌&&◌, ℕ, zero, suc, List, [], ◌∷◌, ◌++◌, Bool, true, false, not, cond, sym, ap, ◌∙◌}
 use Rattle.wy_lemmas.proofs.Choices.{or_elim as or_cases, both_parts as both_true, same_test as same_bools, or_left, both_true as and_both, or_right as or_true}
-use Rattle.wy_term.specs.Term.{Symbol, Term, Of, Parts, no_parts, part, leaf, int_name, val_name, every, exists}
-use Rattle.wy_term.specs.Term as term
-use Rattle.wy_term.specs.Nodes.{Plain}
-use Rattle.wy_term.specs.Same.{same_term}
-use Rattle.wy_term.specs.Scope.{without, of_part, of_all, of_bound, free_by, free_names, free_in}
-use Rattle.wy_term.proofs.SameLemmas.{terms_are, terms_self}
-use Rattle.wy_term_subst.specs.Names.{any_symbol, any_in_parts}
-use Rattle.wy_term_subst.specs.View.{any_at}
+use Rattle.wy_check_nodes.specs.wy_term.Term.{Symbol, Term, Of, Parts, no_parts, part, leaf, int_name, val_name, every, exists}
+use Rattle.wy_check_nodes.specs.wy_term.Term as term
+use Rattle.wy_check_nodes.specs.wy_term.Nodes.{Plain}
+use Rattle.wy_check_nodes.specs.wy_term.Same.{same_term}
+use Rattle.wy_check_nodes.specs.wy_term.Scope.{without, of_part, of_all, of_bound, free_by, free_names, free_in}
+use Rattle.wy_check_nodes.proofs.wy_term_proofs.SameLemmas.{terms_are, terms_self}
+use Rattle.wy_check_nodes.specs.wy_term_subst.Names.{any_symbol, any_in_parts}
+use Rattle.wy_check_nodes.specs.wy_term_subst.View.{any_at}
 use Rattle.wy_check_nodes.specs.wy_check_spec.judge.Node.{Node, is_atom}
 use Rattle.wy_check_nodes.specs.wy_check_spec.valid.Ranges.{binds_it, any_in_node, is_bound_in, any_bound_in, may_split}
 use Rattle.wy_check_splits.specs.Free.{is_among, stands_free, is_caught}

@@ -1,9 +1,9 @@
 -- Arguments and terms of a chain, one after the other.
 use Rattle.std.proofs.Common.{◌≡◌, ◌&&◌, ◌||◌, ℕ, suc, List, [], ◌∷◌, length, Bool, false, refl, sym, ap, ◌∙◌}
 use Rattle.wy_lemmas.proofs.Choices.{and_false}
-use Rattle.wy_term.specs.Term.{Term}
-use Rattle.wy_term.specs.Nodes.{Plain, grown, parts_at}
-use Rattle.wy_term.specs.Same.{same_symbol, same_term}
+use Rattle.wy_check_nodes.specs.wy_term.Term.{Term}
+use Rattle.wy_check_nodes.specs.wy_term.Nodes.{Plain, grown, parts_at}
+use Rattle.wy_check_nodes.specs.wy_term.Same.{same_symbol, same_term}
 use Rattle.wy_check_nodes.specs.wy_check_spec.judge.Node.{Literal}
 use Rattle.wy_check_nodes.specs.wy_check_spec.valid.Literals.{are_joined, arguments_joined, are_alike}
 

@@ -3,10 +3,10 @@ use Rattle.std.proofs.Common.{◌≡◌, ◌<◌, ◌+◌, ◌&&◌, ◌||◌, �
 use Rattle.std.specs.Prelude.{IfOk}
 use Rattle.std.proofs.lemmas.List.{take_more}
 use Rattle.wy_lemmas.proofs.Choices.{and_false, or_assoc}
-use Rattle.wy_term.specs.Term.{Term, DataKind}
-use Rattle.wy_term.specs.Same.{same_kind, same_term}
-use Rattle.wy_term_subst.specs.Names.{is_in}
-use Rattle.wy_term_subst.proofs.NameLemmas.{is_in-append}
+use Rattle.wy_check_nodes.specs.wy_term.Term.{Term, DataKind}
+use Rattle.wy_check_nodes.specs.wy_term.Same.{same_kind, same_term}
+use Rattle.wy_check_nodes.specs.wy_term_subst.Names.{is_in}
+use Rattle.wy_check_nodes.proofs.wy_term_subst_proofs.NameLemmas.{is_in-append}
 use Rattle.wy_check_nodes.proofs.NameLemmas.{NamesOnce}
 use Rattle.wy_check_nodes.specs.wy_check_spec.valid.Kinds.{Kinded, each_of_kind, any_with, any_pair}
 use Rattle.wy_check_splits.specs.Groups.{is_one_of, have_common, as_wanted, in_kinds}

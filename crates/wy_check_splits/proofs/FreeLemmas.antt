@@ -2,13 +2,13 @@
 use Rattle.std.proofs.Common.{◌≡◌, ◌||◌, ◌&&◌, ℕ, List, [], ◌∷◌, ◌++◌, take, Bool, true, false, not, cond, eqb, refl, sym, ap, ◌∙◌}
 use Rattle.std.specs.Prelude.{bytes_eq}
 use Rattle.wy_lemmas.proofs.Choices.{and_end as and_true, or_none, or_assoc}
-use Rattle.wy_term.specs.Term.{Term, leaf, int_name}
-use Rattle.wy_term.specs.declared.node.Node.{Node}
-use Rattle.wy_term.specs.declared.node.Node.TheVariants as node
-use Rattle.wy_term.specs.Nodes.{plain, parts_at, grown}
-use Rattle.wy_term.specs.Same.{same_term}
-use Rattle.wy_term.specs.Scope.{without, of_all, free_names, free_in}
-use Rattle.wy_term.proofs.SameLemmas.{terms_are, terms_self}
+use Rattle.wy_check_nodes.specs.wy_term.Term.{Term, leaf, int_name}
+use Rattle.wy_check_nodes.specs.wy_term.declared.node.Node.{Node}
+use Rattle.wy_check_nodes.specs.wy_term.declared.node.Node.TheVariants as node
+use Rattle.wy_check_nodes.specs.wy_term.Nodes.{plain, parts_at, grown}
+use Rattle.wy_check_nodes.specs.wy_term.Same.{same_term}
+use Rattle.wy_check_nodes.specs.wy_term.Scope.{without, of_all, free_names, free_in}
+use Rattle.wy_check_nodes.proofs.wy_term_proofs.SameLemmas.{terms_are, terms_self}
 use Rattle.wy_check_splits.specs.Free.{is_among, stands_free, is_it, open_parts}
 use Rattle.wy_check_splits.specs.Walk as walk
 use Rattle.wy_check_splits.specs.Walk.{any_over}

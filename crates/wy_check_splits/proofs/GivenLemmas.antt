@@ -2,7 +2,7 @@
 use Rattle.std.proofs.Common.{◌≡◌, ◌+◌, ℕ, List, ◌++◌, map, drop, Bool, Some, sym, ap, ◌∙◌, append_assoc}
 use Rattle.std.specs.Prelude.{slice_get}
 use Rattle.wy_lemmas.proofs.Lists.{get_here as drop_here}
-use Rattle.wy_term.specs.Term.{Term}
+use Rattle.wy_check_nodes.specs.wy_term.Term.{Term}
 use Rattle.wy_check_nodes.specs.Seen.{seen_literal}
 use Rattle.wy_check_nodes.specs.wy_check_spec.valid.Kinds.{sides_of, equated_to}
 

@@ -3,12 +3,12 @@ use Rattle.std.proofs.Common.{◌≡◌, ℕ, List, Bool, true, false, ◌&&◌,
 use Rattle.std.specs.Prelude.{bytes_eq}
 use Rattle.wy_lemmas.proofs.Choices.{and_end as and_true}
 use Rattle.wy_lemmas.proofs.Lists.{bytes_self}
-use Rattle.wy_term.specs.contracts.node.NodePartialEq.TheImpl.{eq-value}
-use Rattle.wy_term.specs.declared.node.Node.{Node}
-use Rattle.wy_term.specs.Term.{Symbol}
-use Rattle.wy_term.specs.Same.{same_symbol}
-use Rattle.wy_term.specs.Nodes.{Plain, of, plain, same_plain}
-use Rattle.wy_term.proofs.NodeEqLemmas.{plain_self, plain_are, nodes_are, nodes_compare}
+use Rattle.wy_check_nodes.specs.wy_term.contracts.node.NodePartialEq.TheImpl.{eq-value}
+use Rattle.wy_check_nodes.specs.wy_term.declared.node.Node.{Node}
+use Rattle.wy_check_nodes.specs.wy_term.Term.{Symbol}
+use Rattle.wy_check_nodes.specs.wy_term.Same.{same_symbol}
+use Rattle.wy_check_nodes.specs.wy_term.Nodes.{Plain, of, plain, same_plain}
+use Rattle.wy_check_nodes.proofs.wy_term_proofs.NodeEqLemmas.{plain_self, plain_are, nodes_are, nodes_compare}
 
 compared : (a b : Node) → eq-value.it a b ≡ same_plain (plain a) (plain b)
 compared a b = by (eq-value.it a b) (same_plain (plain a) (plain b)) refl refl

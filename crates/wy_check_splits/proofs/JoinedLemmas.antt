@@ -3,9 +3,9 @@ use Rattle.std.proofs.Common.{◌≡◌, ◌<◌, ◌+◌, ◌&&◌, ◌||◌, �
 use Rattle.std.proofs.lemmas.Bool.{eqb-true}
 use Rattle.std.specs.Prelude.{slice_get}
 use Rattle.wy_lemmas.proofs.Choices.{and_false, and_end as and_true, or_not as or_false, eqb_itself as eqb_self, cond_or, or_regrouped as or_assoc}
-use Rattle.wy_term.specs.Term.{Symbol, Term, Of, Parts, no_parts, part, two, equal, at_most}
-use Rattle.wy_term.specs.Same.{same_symbol, same_term, same_parts}
-use Rattle.wy_term.proofs.SameLemmas.{terms_are, terms_self}
+use Rattle.wy_check_nodes.specs.wy_term.Term.{Symbol, Term, Of, Parts, no_parts, part, two, equal, at_most}
+use Rattle.wy_check_nodes.specs.wy_term.Same.{same_symbol, same_term, same_parts}
+use Rattle.wy_check_nodes.proofs.wy_term_proofs.SameLemmas.{terms_are, terms_self}
 use Rattle.wy_check_nodes.specs.wy_check_spec.judge.Node.{Literal, same_literal, has_literal}
 use Rattle.wy_check_nodes.specs.Seen.{seen_literal}
 use Rattle.wy_check_nodes.specs.wy_check_spec.valid.Literals.{has_atom}

@@ -1,14 +1,14 @@
 -- The derived comparison of kinds compares their plain data.
 use Rattle.std.proofs.Common.{◌≡◌, ◌∙◌, ℕ, List, map, Some, refl, sym, ap}
-use Rattle.wy_term.proofs.NodeEqLemmas.{names_by_pairs}
-use Rattle.wy_term.specs.contracts.node.KindPartialEq.TheImpl.{eq-value}
-use Rattle.wy_term.specs.declared.node.Kind.{Kind}
-use Rattle.wy_term.specs.declared.node.Kind.TheVariants as kind
-use Rattle.wy_term.specs.Term.{Term, Of, fields, record_kind}
-use Rattle.wy_term.specs.Same.{same_kind}
-use Rattle.wy_term.specs.Nodes.{plain_kind, parts_at}
-use Rattle.wy_term.specs.Rewriting.{kind_given}
-use Rattle.wy_term.proofs.FoldLemmas.{names_for_parts_at}
+use Rattle.wy_check_nodes.proofs.wy_term_proofs.NodeEqLemmas.{names_by_pairs}
+use Rattle.wy_check_nodes.specs.wy_term.contracts.node.KindPartialEq.TheImpl.{eq-value}
+use Rattle.wy_check_nodes.specs.wy_term.declared.node.Kind.{Kind}
+use Rattle.wy_check_nodes.specs.wy_term.declared.node.Kind.TheVariants as kind
+use Rattle.wy_check_nodes.specs.wy_term.Term.{Term, Of, fields, record_kind}
+use Rattle.wy_check_nodes.specs.wy_term.Same.{same_kind}
+use Rattle.wy_check_nodes.specs.wy_term.Nodes.{plain_kind, parts_at}
+use Rattle.wy_check_nodes.specs.wy_term.Rewriting.{kind_given}
+use Rattle.wy_check_nodes.proofs.wy_term_proofs.FoldLemmas.{names_for_parts_at}
 
 pub kind_eq_is : (k l : Kind) → eq-value.it k l ≡ same_kind (plain_kind k) (plain_kind l)
 kind_eq_is (kind.Record fs) (kind.Record gs) = names_by_pairs fs.items gs.items

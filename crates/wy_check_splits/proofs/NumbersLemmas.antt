@@ -3,12 +3,12 @@ use Rattle.std.proofs.Common.{◌≡◌, ◌<◌, ◌+◌, ◌||◌, ℕ, zero, 
 use Rattle.std.proofs.lemmas.List.{append-nil}
 use Rattle.std.specs.Prelude.{slice_get}
 use Rattle.wy_lemmas.proofs.Choices.{or_assoc}
-use Rattle.wy_term.specs.Term.{Symbol, Term}
-use Rattle.wy_term.specs.Nodes.{Plain}
-use Rattle.wy_term_subst.specs.declared.names.Taken.{Taken}
-use Rattle.wy_term_subst.specs.Names.{any_symbol, numbers_in, is_in}
-use Rattle.wy_term_subst.specs.View.{any_at, noted_numbers, Counts}
-use Rattle.wy_term_subst.proofs.NameLemmas.{is_in-append, has_number, is_in-noted, is_in-numbers_in, counts_same}
+use Rattle.wy_check_nodes.specs.wy_term.Term.{Symbol, Term}
+use Rattle.wy_check_nodes.specs.wy_term.Nodes.{Plain}
+use Rattle.wy_check_nodes.specs.wy_term_subst.declared.names.Taken.{Taken}
+use Rattle.wy_check_nodes.specs.wy_term_subst.Names.{any_symbol, numbers_in, is_in}
+use Rattle.wy_check_nodes.specs.wy_term_subst.View.{any_at, noted_numbers, Counts}
+use Rattle.wy_check_nodes.proofs.wy_term_subst_proofs.NameLemmas.{is_in-append, has_number, is_in-noted, is_in-numbers_in, counts_same}
 use Rattle.wy_check_nodes.specs.Seen.{AreOver, signed, seen_literal, seen_formula}
 use Rattle.wy_check_nodes.specs.wy_check_spec.valid.Ranges.{numbers_in_literals, numbers_in_formulas}
 use Rattle.wy_check_splits.specs.Numbers.{numbers_of}

@@ -1,8 +1,8 @@
 -- Ranges and formulas as terms are made.
 use Rattle.std.proofs.Common.{◌≡◌, ◌<◌, ◌≤◌, ℕ, List, length, Bool, Result, Ok, Err, ap, ◌∙◌, arith}
 use Rattle.std.specs.Prelude.{IfOk}
-use Rattle.wy_term.specs.Term.{Term}
-use Rattle.wy_term.specs.Nodes.{Plain, tree_at}
+use Rattle.wy_check_nodes.specs.wy_term.Term.{Term}
+use Rattle.wy_check_nodes.specs.wy_term.Nodes.{Plain, tree_at}
 use Rattle.wy_check_nodes.specs.wy_facts.Made.{is_at_most, denial, one_of_three}
 use Rattle.wy_check_nodes.specs.wy_facts.Seen.{Stays}
 use Rattle.wy_check_nodes.proofs.wy_facts_proofs.StepLemmas.{stays_on}

@@ -11,10 +11,10 @@ use Rattle.std.proofs.lemmas.Map.Views.{All-insert_key}
 use Rattle.wy_lemmas.proofs.Choices.{or_none, or_assoc, or_swapped as or_swap}
 use Rattle.wy_lemmas.proofs.Lists.{take_next}
 use Rattle.wy_lemmas.proofs.Options.{pair_is}
-use Rattle.wy_term.specs.Term.{Symbol, Term, denied}
-use Rattle.wy_term.specs.Nodes.{Plain, parts_at, grown}
+use Rattle.wy_check_nodes.specs.wy_term.Term.{Symbol, Term, denied}
+use Rattle.wy_check_nodes.specs.wy_term.Nodes.{Plain, parts_at, grown}
 use Rattle.wy_check_nodes.specs.wy_facts.Seen.{AreBelow}
-use Rattle.wy_term_subst.specs.Names.{any_symbol, any_in_parts}
+use Rattle.wy_check_nodes.specs.wy_term_subst.Names.{any_symbol, any_in_parts}
 use Rattle.wy_check_nodes.specs.Seen.{seen_literal, seen_formula, AreOver}
 use Rattle.wy_check_nodes.specs.wy_check_spec.valid.Ranges.{any_in_literals, any_in_formulas}
 use Rattle.wy_check_splits.specs.Walk.{any_over, any_first}

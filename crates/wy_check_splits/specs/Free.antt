@@ -1,9 +1,9 @@
 -- Which names stand free in a term, one name at a time.
 use Rattle.std.specs.Prelude.{ℕ, ◌==◌, List, [], ◌∷◌, Bool, false, ◌&&◌, ◌||◌, bytes_eq, take, if◌then◌else◌}
-use Rattle.wy_term.specs.Term.{Symbol, Term, leaf, int_name}
-use Rattle.wy_term.specs.Nodes.{Plain}
-use Rattle.wy_term.specs.Same.{same_term}
-use Rattle.wy_term.specs.Scope.{free_names}
+use Rattle.wy_check_nodes.specs.wy_term.Term.{Symbol, Term, leaf, int_name}
+use Rattle.wy_check_nodes.specs.wy_term.Nodes.{Plain}
+use Rattle.wy_check_nodes.specs.wy_term.Same.{same_term}
+use Rattle.wy_check_nodes.specs.wy_term.Scope.{free_names}
 use Rattle.wy_check_nodes.specs.wy_check_spec.valid.Ranges.{binds_it}
 
 -- the term is one of these

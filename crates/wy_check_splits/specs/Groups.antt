@@ -1,8 +1,8 @@
 -- What the code's groups of terms of one kind stand for, and when two have a term in common.
 use Rattle.std.specs.Prelude.{ℕ, List, [], ◌∷◌, ◌++◌, map, Bool, true, false, ◌||◌, not}
-use Rattle.wy_term.specs.Term.{Term}
-use Rattle.wy_term.specs.Nodes.{plain_kind}
-use Rattle.wy_term.specs.Same.{same_term}
+use Rattle.wy_check_nodes.specs.wy_term.Term.{Term}
+use Rattle.wy_check_nodes.specs.wy_term.Nodes.{plain_kind}
+use Rattle.wy_check_nodes.specs.wy_term.Same.{same_term}
 use Rattle.wy_check_nodes.specs.wy_facts.Seen.{AreBelow}
 use Rattle.wy_check_nodes.specs.wy_check_spec.valid.Kinds.{Kinded, each_of_kind, in_one_kind, in_two_kinds}
 use Rattle.wy_check_splits.specs.declared.given.Group.{Group}

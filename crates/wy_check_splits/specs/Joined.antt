@@ -1,8 +1,8 @@
 -- Which pairs of terms are noted as joined.
 use Rattle.std.specs.Prelude.{◌≡◌, ◌<◌, ℕ, List, ◌&&◌, ◌||◌, Bool, nat_eq}
 use Rattle.std.specs.HashSet.{contains}
-use Rattle.wy_term.specs.Term.{Term, two, equal, at_most}
-use Rattle.wy_term.specs.Same.{same_term}
+use Rattle.wy_check_nodes.specs.wy_term.Term.{Term, two, equal, at_most}
+use Rattle.wy_check_nodes.specs.wy_term.Same.{same_term}
 use Rattle.wy_check_nodes.specs.wy_check_spec.judge.Node.{Literal}
 use Rattle.wy_check_nodes.specs.wy_check_spec.valid.Literals.{has_atom}
 use Rattle.wy_check_splits.specs.declared.joined.Joined.{Joined}

@@ -1,7 +1,7 @@
 -- The numbers of the names in terms that are given with signs, the last one first.
 use Rattle.std.specs.Prelude.{ℕ, List, [], ◌∷◌, ◌++◌, Bool}
-use Rattle.wy_term.specs.Term.{Term}
-use Rattle.wy_term_subst.specs.Names.{numbers_in}
+use Rattle.wy_check_nodes.specs.wy_term.Term.{Term}
+use Rattle.wy_check_nodes.specs.wy_term_subst.Names.{numbers_in}
 
 abbrev pub numbers_of : (ℕ → Term) → List (ℕ × Bool) → List ℕ
 numbers_of at [] = []

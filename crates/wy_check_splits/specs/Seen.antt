@@ -1,6 +1,6 @@
 -- What the code's ranges stand for, where `at` gives the term of a number.
 use Rattle.std.specs.Prelude.{ℕ, ◌<◌}
-use Rattle.wy_term.specs.Term.{Term}
+use Rattle.wy_check_nodes.specs.wy_term.Term.{Term}
 use Rattle.wy_check_nodes.specs.wy_check_spec.valid.Ranges as ranges
 use Rattle.wy_check_splits.specs.declared.quantifier.Range.{Range}
 

@@ -1,5 +1,5 @@
 -- What the code's sorts stand for.
-use Rattle.wy_term.specs.Sorts as sorts
+use Rattle.wy_check_nodes.specs.wy_term.Sorts as sorts
 use Rattle.wy_check_splits.specs.declared.sorts.Sort.{Sort}
 use Rattle.wy_check_splits.specs.declared.sorts.Sort.TheVariants.{Int, Val, Formula}
 

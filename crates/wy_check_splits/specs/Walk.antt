@@ -1,7 +1,7 @@
 -- What is told of the terms that are still to be looked at, where `at` gives the term of a number.
 use Rattle.std.specs.Prelude.{ℕ, List, [], ◌∷◌, Bool, false, ◌||◌}
-use Rattle.wy_term.specs.Term.{Term}
-use Rattle.wy_term_subst.specs.Names.{any_symbol}
+use Rattle.wy_check_nodes.specs.wy_term.Term.{Term}
+use Rattle.wy_check_nodes.specs.wy_term_subst.Names.{any_symbol}
 use Rattle.wy_check_nodes.specs.wy_check_spec.valid.Ranges.{binds_it}
 use Rattle.wy_check_splits.specs.Free.{stands_free}
 

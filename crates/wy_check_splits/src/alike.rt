@@ -1,17 +1,16 @@
 //! Which terms literals show to be equal: those that they join, and those of one head with such arguments.
 ghost use Rattle.std.specs.Prelude.{◌≡◌, ◌<◌, ◌||◌, List, length, IfOk};
-ghost use Rattle.wy_term.specs.Nodes.{plain, tree_at, parts_at};
-ghost use Rattle.wy_term.specs.Same.{same_symbol, same_term};
+ghost use Rattle.wy_check_nodes.specs.wy_term.Nodes.{plain, tree_at, parts_at};
+ghost use Rattle.wy_check_nodes.specs.wy_term.Same.{same_symbol, same_term};
 ghost use Rattle.wy_check_nodes.specs.wy_check_spec.judge.Node.{Literal};
-ghost use Rattle.wy_term_subst.specs.Substitution.{renumbered};
+ghost use Rattle.wy_check_nodes.specs.wy_term_subst.Substitution.{renumbered};
 ghost use Rattle.wy_check_nodes.specs.wy_facts.Seen.{AreBelow};
 ghost use Rattle.wy_check_nodes.specs.wy_check_spec.valid.Literals.{are_joined, arguments_joined, are_alike};
 ghost use Rattle.wy_check_splits.specs.Joined.{Notes};
 
 use crate::joined::Joined;
 use crate::sorts::{Sort, sort_at};
-use wy_term::{NoMemory, Node, Terms};
-use wy_term_subst::{parts_of, with_parts};
+use wy_check_nodes::{NoMemory, Node, Terms, parts_of, with_parts};
 
 /// Whether two Int terms are joined by two literals, or two Val terms by an equation, in constant time.
 pub fn are_joined(terms: &Terms, joined: &Joined, s: u32, t: u32) -> bool

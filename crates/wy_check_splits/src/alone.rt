@@ -1,12 +1,12 @@
 //! Whether a literal alone can't be.
 ghost use Rattle.std.specs.Prelude.{◌≡◌, ◌<◌, ◌||◌, length, IfOk};
-ghost use Rattle.wy_term.specs.Nodes.{tree_at};
-ghost use Rattle.wy_term.specs.Rewriting.{as_constant, kind_given};
+ghost use Rattle.wy_check_nodes.specs.wy_term.Nodes.{tree_at};
+ghost use Rattle.wy_check_nodes.specs.wy_term.Rewriting.{as_constant, kind_given};
 ghost use Rattle.wy_check_nodes.specs.wy_check_spec.valid.Kinds.{are_apart, of_two_kinds, clashes_with};
 
 use crate::constants::{are_apart, constant_at};
 use crate::kinds::{kind_given, of_two_kinds};
-use wy_term::{NoMemory, Node, Terms};
+use wy_check_nodes::{NoMemory, Node, Terms};
 
 // Whether an equation can't be, by constants or by kinds.
 fn sides_differ(terms: &Terms, v: u32, w: u32) -> Result<bool, NoMemory>

@@ -1,19 +1,17 @@
 //! Which names the quantifiers of a node bind.
 ghost use Rattle.std.specs.Prelude.{◌≡◌, ◌<◌, ◌||◌, ℕ, List, length, IfOk, OnOk};
 ghost use Rattle.std.specs.HashSet.{contains};
-ghost use Rattle.wy_term.specs.Nodes.{plain, tree_at};
+ghost use Rattle.wy_check_nodes.specs.wy_term.Nodes.{plain, tree_at};
 ghost use Rattle.wy_check_nodes.specs.wy_facts.Seen.{AreBelow};
-ghost use Rattle.wy_term_subst.specs.View.{same_name};
+ghost use Rattle.wy_check_nodes.specs.wy_term_subst.View.{same_name};
 ghost use Rattle.wy_check_nodes.specs.Seen.{seen_branch, IsBranch};
 ghost use Rattle.wy_check_nodes.specs.wy_check_spec.valid.Ranges.{binds_it, any_in_node};
 ghost use Rattle.wy_check_splits.specs.Walk.{any_over, binds_in};
 
 use crate::todo::{put_all, put_members};
 use std::collections::{BTreeSet, HashSet};
-use wy_check_nodes::Branch;
+use wy_check_nodes::{Branch, NoMemory, Node, Terms, parts_of};
 use wy_data::Name;
-use wy_term::{NoMemory, Node, Terms};
-use wy_term_subst::parts_of;
 
 /// Int names that quantifiers bind, by word and number.
 #[derive(Drop)]

@@ -1,6 +1,6 @@
 //! What a chain of terms states: that its ends are equal.
 ghost use Rattle.std.specs.Prelude.{◌≡◌, ◌<◌, ◌∷◌, [], ◌||◌, List, length, option_map, IfOk, IfSome};
-ghost use Rattle.wy_term.specs.Nodes.{tree_at};
+ghost use Rattle.wy_check_nodes.specs.wy_term.Nodes.{tree_at};
 ghost use Rattle.wy_check_nodes.specs.wy_check_spec.judge.Node.{Literal};
 ghost use Rattle.wy_check_nodes.specs.wy_facts.Made.{is_at_most, is_equal};
 ghost use Rattle.wy_check_nodes.specs.wy_facts.Seen.{terms_at, AreBelow, Stays};
@@ -8,13 +8,12 @@ ghost use Rattle.wy_check_nodes.specs.Seen.{seen_branch, IsBranch};
 ghost use Rattle.wy_check_nodes.specs.wy_check_spec.valid.Literals.{are_joined, are_alike, is_chain, last_of};
 ghost use Rattle.wy_check_nodes.specs.wy_check_spec.valid.Validity.{equality_of, chain_stated};
 ghost use Rattle.wy_check_splits.specs.Joined.{Notes};
-ghost use Rattle.wy_term.specs.Sorts.{sort_in};
+ghost use Rattle.wy_check_nodes.specs.wy_term.Sorts.{sort_in};
 
 use crate::alike::{are_alike, are_joined};
 use crate::joined::{Joined, joined_by};
 use crate::sorts::{Sort, sort_at};
-use wy_check_nodes::Branch;
-use wy_term::{NoMemory, Node, Terms};
+use wy_check_nodes::{Branch, NoMemory, Node, Terms};
 
 // Whether a term is joined with the one before it, or alike.
 fn is_link(terms: &Terms, joined: &Joined, s: u32, t: u32) -> Result<bool, NoMemory>

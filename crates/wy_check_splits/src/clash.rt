@@ -1,6 +1,6 @@
 //! Whether literals can't be.
 ghost use Rattle.std.specs.Prelude.{◌≡◌, ◌<◌, length, IfOk};
-ghost use Rattle.wy_term.specs.Nodes.{tree_at};
+ghost use Rattle.wy_check_nodes.specs.wy_term.Nodes.{tree_at};
 ghost use Rattle.wy_check_nodes.specs.Seen.{seen_branch, seen_literal, IsBranch};
 ghost use Rattle.wy_check_nodes.specs.wy_check_spec.valid.Kinds.{clash_together};
 ghost use Rattle.wy_check_nodes.specs.wy_check_spec.valid.Validity.{is_clash};
@@ -8,8 +8,7 @@ ghost use Rattle.wy_check_nodes.specs.wy_check_spec.valid.Validity.{is_clash};
 use crate::alone::clashes_with;
 use crate::given::{kinds_denied, kinds_given};
 use crate::meeting::groups_meet;
-use wy_check_nodes::{Branch, literal_at};
-use wy_term::{NoMemory, Terms};
+use wy_check_nodes::{Branch, NoMemory, Terms, literal_at};
 
 // Whether two literals give one term two kinds, or one gives a kind that the other denies.
 fn clash_together(

@@ -1,12 +1,12 @@
 //! The data of constants.
 ghost use Rattle.std.specs.Prelude.{◌≡◌, ◌<◌, length, option_map};
-ghost use Rattle.wy_term.specs.Nodes.{tree_at};
-ghost use Rattle.wy_term.specs.Data.{same_datum};
-ghost use Rattle.wy_term.specs.Rewriting.{as_number, as_constant};
+ghost use Rattle.wy_check_nodes.specs.wy_term.Nodes.{tree_at};
+ghost use Rattle.wy_check_nodes.specs.wy_term.Data.{same_datum};
+ghost use Rattle.wy_check_nodes.specs.wy_term.Rewriting.{as_number, as_constant};
 ghost use Rattle.wy_check_nodes.specs.wy_check_spec.valid.Kinds.{are_apart};
 ghost use Rattle.wy_check_splits.specs.Constants.{datum_of};
 
-use wy_term::{Node, Terms};
+use wy_check_nodes::{Node, Terms};
 
 /// A datum that a term is.
 #[derive(Clone, Copy, Debug, PartialEq, Eq)]

@@ -1,6 +1,6 @@
 //! Whether a name stands free in a term.
 ghost use Rattle.std.specs.Prelude.{◌≡◌, ◌<◌, ◌||◌, length, IfOk};
-ghost use Rattle.wy_term.specs.Nodes.{plain, tree_at};
+ghost use Rattle.wy_check_nodes.specs.wy_term.Nodes.{plain, tree_at};
 ghost use Rattle.wy_check_nodes.specs.wy_facts.Seen.{AreBelow};
 ghost use Rattle.wy_check_nodes.specs.wy_check_spec.valid.Ranges.{binds_it};
 ghost use Rattle.wy_check_splits.specs.Free.{is_it, open_parts, stands_free};
@@ -9,9 +9,8 @@ ghost use Rattle.wy_check_splits.specs.Walk.{any_over, free_in};
 use crate::todo::put_all;
 use std::alloc::{AllocError, Global};
 use std::collections::BTreeSet;
+use wy_check_nodes::{NoMemory, Node, Terms, parts_of};
 use wy_data::Name;
-use wy_term::{NoMemory, Node, Terms};
-use wy_term_subst::parts_of;
 
 // Whether a node is this name.
 fn is_name(node: &Node, word: &Name, number: u128) -> bool

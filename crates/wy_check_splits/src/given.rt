@@ -1,8 +1,8 @@
 //! Which kinds a literal gives and denies to which terms.
 ghost use Rattle.std.specs.Prelude.{◌≡◌, ◌<◌, ◌++◌, ◌∷◌, [], ℕ, if◌then◌else◌, length, option_map, IfOk, OnOk};
-ghost use Rattle.wy_term.specs.Term.{Term};
-ghost use Rattle.wy_term.specs.Nodes.{plain_kind, tree_at};
-ghost use Rattle.wy_term.specs.Rewriting.{kind_given};
+ghost use Rattle.wy_check_nodes.specs.wy_term.Term.{Term};
+ghost use Rattle.wy_check_nodes.specs.wy_term.Nodes.{plain_kind, tree_at};
+ghost use Rattle.wy_check_nodes.specs.wy_term.Rewriting.{kind_given};
 ghost use Rattle.wy_check_nodes.specs.wy_facts.Seen.{terms_at, AreBelow};
 ghost use Rattle.wy_check_nodes.specs.Seen.{seen_branch, IsBranch};
 ghost use Rattle.wy_check_nodes.specs.wy_check_spec.valid.Kinds.{sides_of, equated_to, each_of_kind, of_kind_given, given_by, denied_by};
@@ -10,8 +10,7 @@ ghost use Rattle.wy_check_splits.specs.Groups.{of_group, kinded, AreGroups};
 
 use crate::kinds::{copied_kind, kind_given};
 use std::alloc::Global;
-use wy_check_nodes::{Branch, nth_literal};
-use wy_term::{Kind, NoMemory, Node, Terms};
+use wy_check_nodes::{Branch, Kind, NoMemory, Node, Terms, nth_literal};
 
 /// Terms of one kind.
 #[derive(Drop)]

@@ -1,19 +1,17 @@
 //! What a quantifier states of an Int term.
 ghost use Rattle.std.specs.Prelude.{◌≡◌, ◌<◌, length, option_map, IfOk, IfSome};
-ghost use Rattle.wy_term.specs.Term.{leaf, int_name};
-ghost use Rattle.wy_term.specs.Nodes.{tree_at};
+ghost use Rattle.wy_check_nodes.specs.wy_term.Term.{leaf, int_name};
+ghost use Rattle.wy_check_nodes.specs.wy_term.Nodes.{tree_at};
 ghost use Rattle.wy_check_nodes.specs.wy_facts.Seen.{Stays};
-ghost use Rattle.wy_term_subst.specs.Substitution.{substituted};
+ghost use Rattle.wy_check_nodes.specs.wy_term_subst.Substitution.{substituted};
 ghost use Rattle.wy_check_nodes.specs.Seen.{seen_branch, IsBranch};
 ghost use Rattle.wy_check_nodes.specs.wy_check_spec.valid.Ranges.{said, body_at, instance_at, is_int, instance_stated};
 ghost use Rattle.wy_check_splits.specs.Seen.{seen_range, IsRangeOver};
 
 use crate::making::{above, at_most, denial, one_of_three};
 use crate::quantifier::{Range, of_each};
-use wy_check_nodes::{Branch, literal_at};
+use wy_check_nodes::{Branch, NoMemory, Node, Terms, literal_at, subst};
 use wy_data::Name;
-use wy_term::{NoMemory, Node, Terms};
-use wy_term_subst::subst;
 
 /// The Int name with a word and a number.
 pub fn name(terms: &mut Terms, word: &Name, number: u128) -> Result<u32, NoMemory>

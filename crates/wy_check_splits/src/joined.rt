@@ -1,12 +1,11 @@
 //! Which terms the literals join.
 ghost use Rattle.std.specs.Prelude.{◌<◌, length, IfOk, OnOk};
-ghost use Rattle.wy_term.specs.Nodes.{tree_at};
+ghost use Rattle.wy_check_nodes.specs.wy_term.Nodes.{tree_at};
 ghost use Rattle.wy_check_nodes.specs.Seen.{seen_branch, IsBranch};
 ghost use Rattle.wy_check_splits.specs.Joined.{Notes, NotesBehind};
 
 use std::collections::HashSet;
-use wy_check_nodes::{Branch, nth_literal};
-use wy_term::{NoMemory, Node, Terms};
+use wy_check_nodes::{Branch, NoMemory, Node, Terms, nth_literal};
 
 /// The pairs of terms of which an equation is a true literal, and those of which the first is at most the second by one.
 #[derive(Drop)]

@@ -1,13 +1,13 @@
 //! Kinds of data.
 ghost use Rattle.std.specs.Prelude.{◌≡◌, ◌<◌, map, length, option_map, IfOk};
-ghost use Rattle.wy_term.specs.Nodes.{plain_kind, tree_at};
-ghost use Rattle.wy_term.specs.Same.{same_kind};
-ghost use Rattle.wy_term.specs.Rewriting.{kind_given};
+ghost use Rattle.wy_check_nodes.specs.wy_term.Nodes.{plain_kind, tree_at};
+ghost use Rattle.wy_check_nodes.specs.wy_term.Same.{same_kind};
+ghost use Rattle.wy_check_nodes.specs.wy_term.Rewriting.{kind_given};
 ghost use Rattle.wy_check_nodes.specs.wy_check_spec.valid.Kinds.{of_two_kinds};
 
 use std::alloc::{AllocError, Global};
+use wy_check_nodes::{Kind, NoMemory, Node, Terms};
 use wy_data::Name;
-use wy_term::{Kind, NoMemory, Node, Terms};
 
 /// Whether two kinds are the same, in time linear in the size of the smaller one.
 pub fn same_kind(k: &Kind, l: &Kind) -> bool

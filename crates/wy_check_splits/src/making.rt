@@ -1,10 +1,10 @@
 //! Formulas, folded as they are made.
 ghost use Rattle.std.specs.Prelude.{◌≡◌, ◌<◌, length, IfOk};
-ghost use Rattle.wy_term.specs.Nodes.{tree_at};
+ghost use Rattle.wy_check_nodes.specs.wy_term.Nodes.{tree_at};
 ghost use Rattle.wy_check_nodes.specs.wy_facts.Made.{is_at_most, denial, one_of_three};
 ghost use Rattle.wy_check_nodes.specs.wy_facts.Seen.{Stays};
 
-use wy_term::{NoMemory, Node, Terms};
+use wy_check_nodes::{NoMemory, Node, Terms};
 
 /// `s <= t`
 pub fn at_most(terms: &mut Terms, s: u32, t: u32) -> Result<u32, NoMemory>

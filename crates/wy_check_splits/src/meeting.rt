@@ -1,9 +1,9 @@
 //! Whether groups of terms have a term in common.
 ghost use Rattle.std.specs.Prelude.{◌≡◌, ℕ, nat_eq, length, IfOk};
 ghost use Rattle.std.specs.HashSet.{contains};
-ghost use Rattle.wy_term_subst.specs.Names.{is_in};
-ghost use Rattle.wy_term.specs.Nodes.{plain_kind, tree_at};
-ghost use Rattle.wy_term.specs.Same.{same_kind};
+ghost use Rattle.wy_check_nodes.specs.wy_term_subst.Names.{is_in};
+ghost use Rattle.wy_check_nodes.specs.wy_term.Nodes.{plain_kind, tree_at};
+ghost use Rattle.wy_check_nodes.specs.wy_term.Same.{same_kind};
 ghost use Rattle.wy_check_nodes.specs.wy_facts.Seen.{terms_at, AreBelow};
 ghost use Rattle.wy_check_nodes.specs.wy_check_spec.valid.Kinds.{any_pair};
 ghost use Rattle.wy_check_splits.specs.Groups.{of_group, kinded, AreGroups, have_common, as_wanted, in_kinds};
@@ -12,7 +12,7 @@ use crate::given::{Group, Groups};
 use crate::kinds::same_kind;
 use std::alloc::Global;
 use std::collections::HashSet;
-use wy_term::{Kind, NoMemory, Terms};
+use wy_check_nodes::{Kind, NoMemory, Terms};
 
 // The set of these numbers.
 fn set_of(alloc: Global, ts: &[u32]) -> Result<HashSet<u32>, NoMemory>

@@ -1,16 +1,16 @@
 //! The numbers of the names in a node.
 ghost use Rattle.std.specs.Prelude.{◌≡◌, ◌<◌, ◌++◌, ℕ, List, Some, length, slice_get, IfOk, OnOk};
-ghost use Rattle.wy_term.specs.Nodes.{tree_at};
-ghost use Rattle.wy_term_subst.specs.Names.{numbers_in, new_number};
-ghost use Rattle.wy_term_subst.specs.View.{Counts};
+ghost use Rattle.wy_check_nodes.specs.wy_term.Nodes.{tree_at};
+ghost use Rattle.wy_check_nodes.specs.wy_term_subst.Names.{numbers_in, new_number};
+ghost use Rattle.wy_check_nodes.specs.wy_term_subst.View.{Counts};
 ghost use Rattle.wy_check_nodes.specs.Seen.{seen_branch, AreOver, IsBranch};
 ghost use Rattle.wy_check_nodes.specs.wy_check_spec.valid.Ranges.{numbers_in_node};
 ghost use Rattle.wy_check_splits.specs.Numbers.{numbers_of};
 
 use indexmap::IndexSet;
-use wy_check_nodes::Branch;
-use wy_term::{NoMemory, Terms};
-use wy_term_subst::{Taken, made_of, new_number, none_taken, take_numbers};
+use wy_check_nodes::{
+    Branch, NoMemory, Taken, Terms, made_of, new_number, none_taken, take_numbers,
+};
 
 // Notes the numbers of the names in a term.
 fn take_term(terms: &Terms, t: u32, taken: &mut Taken) -> Result<(), NoMemory>

@@ -1,13 +1,13 @@
 //! Quantifiers, taken apart.
 ghost use Rattle.std.specs.Prelude.{◌≡◌, ◌<◌, ℕ, length, option_map, IfOk, IfSome};
-ghost use Rattle.wy_term.specs.Term.{Term};
-ghost use Rattle.wy_term.specs.Nodes.{tree_at};
+ghost use Rattle.wy_check_nodes.specs.wy_term.Term.{Term};
+ghost use Rattle.wy_check_nodes.specs.wy_term.Nodes.{tree_at};
 ghost use Rattle.wy_check_nodes.specs.Seen.{seen_literal};
 ghost use Rattle.wy_check_nodes.specs.wy_check_spec.valid.Ranges.{as_every, as_exists, of_each, of_one};
 ghost use Rattle.wy_check_splits.specs.Seen.{seen_range, IsRangeOver};
 
+use wy_check_nodes::{NoMemory, Node, Quantifier, Terms};
 use wy_data::Name;
-use wy_term::{NoMemory, Node, Quantifier, Terms};
 
 /// A bound Int name, the numbers of its bounds, and that of the formula of which they are the range.
 #[derive(Drop)]

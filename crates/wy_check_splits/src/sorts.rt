@@ -1,10 +1,10 @@
 //! Which sort a term is of.
 ghost use Rattle.std.specs.Prelude.{◌≡◌, ◌<◌, length};
-ghost use Rattle.wy_term.specs.Nodes.{tree_at};
-ghost use Rattle.wy_term.specs.Sorts.{sort_in};
+ghost use Rattle.wy_check_nodes.specs.wy_term.Nodes.{tree_at};
+ghost use Rattle.wy_check_nodes.specs.wy_term.Sorts.{sort_in};
 ghost use Rattle.wy_check_splits.specs.Sorts.{seen_sort};
 
-use wy_term::{Node, Terms};
+use wy_check_nodes::{Node, Terms};
 
 /// A sort of terms.
 #[derive(Clone, Copy, Debug, PartialEq, Eq)]

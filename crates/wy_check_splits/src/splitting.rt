@@ -1,9 +1,9 @@
 //! Whether a formula may be split on.
 ghost use Rattle.std.specs.Prelude.{◌≡◌, ◌<◌, length, IfOk};
 ghost use Rattle.std.specs.HashSet.{contains};
-ghost use Rattle.wy_term.specs.Nodes.{tree_at};
+ghost use Rattle.wy_check_nodes.specs.wy_term.Nodes.{tree_at};
 ghost use Rattle.wy_check_nodes.specs.wy_facts.Seen.{AreBelow};
-ghost use Rattle.wy_term_subst.specs.View.{same_name, symbol_at, any_at};
+ghost use Rattle.wy_check_nodes.specs.wy_term_subst.View.{same_name, symbol_at, any_at};
 ghost use Rattle.wy_check_nodes.specs.wy_check_spec.judge.Node.{is_atom};
 ghost use Rattle.wy_check_nodes.specs.Seen.{seen_branch, IsBranch};
 ghost use Rattle.wy_check_nodes.specs.wy_check_spec.valid.Ranges.{may_split};
@@ -11,9 +11,7 @@ ghost use Rattle.wy_check_splits.specs.Free.{is_caught};
 
 use crate::bound::{BoundNames, bound_names, is_among};
 use crate::free::is_free;
-use wy_check_nodes::Branch;
-use wy_term::{NoMemory, Node, Terms};
-use wy_term_subst::made_of;
+use wy_check_nodes::{Branch, NoMemory, Node, Terms, made_of};
 
 // Whether a formula is taken apart no further.
 fn is_atom(terms: &Terms, f: u32) -> bool

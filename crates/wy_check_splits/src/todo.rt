@@ -6,7 +6,7 @@ ghost use Rattle.wy_check_splits.specs.Walk.{any_over, any_first};
 
 use indexmap::IndexSet;
 use std::collections::BTreeSet;
-use wy_term::NoMemory;
+use wy_check_nodes::NoMemory;
 
 /// Notes that these terms are to be looked at, in time n log n in how many are noted.
 pub fn put_all(todo: &mut BTreeSet<u32>, parts: &[u32]) -> Result<(), NoMemory>

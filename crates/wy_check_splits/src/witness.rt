@@ -1,6 +1,6 @@
 //! What a quantifier states of a new name.
 ghost use Rattle.std.specs.Prelude.{◌≡◌, ◌<◌, length, option_map, IfOk, IfSome};
-ghost use Rattle.wy_term.specs.Nodes.{tree_at};
+ghost use Rattle.wy_check_nodes.specs.wy_term.Nodes.{tree_at};
 ghost use Rattle.wy_check_nodes.specs.wy_facts.Seen.{terms_at, AreBelow, Stays};
 ghost use Rattle.wy_check_nodes.specs.Seen.{seen_branch, IsBranch};
 ghost use Rattle.wy_check_nodes.specs.wy_check_spec.valid.Ranges.{witness, witnessed_at, witness_stated};
@@ -10,8 +10,7 @@ use crate::instance::{body_at, name};
 use crate::making::{above, at_most};
 use crate::numbers::fresh_number;
 use crate::quantifier::{Range, of_one};
-use wy_check_nodes::{Branch, literal_at};
-use wy_term::{NoMemory, Terms};
+use wy_check_nodes::{Branch, NoMemory, Terms, literal_at};
 
 /// A term is in the range, and the body, or its denial, holds at it.
 pub fn witnessed_at(terms: &mut Terms, holds: bool, r: &Range, x: u32) -> Result<Vec<u32>, NoMemory>

@@ -8,8 +8,8 @@ use Rattle.wy_term.specs.Rewriting.{as_constant}
 use Rattle.wy_term.specs.Same.{same_kind}
 use Rattle.wy_term.proofs.SameLemmas.{terms_self}
 use Rattle.wy_check_splits.specs.Groups.{as_wanted, in_kinds}
-use Rattle.wy_check_nodes.specs.Seen.{seen_literal}
-use Rattle.wy_check_spec.specs.valid.Kinds as valid
+use Rattle.wy_check_splits.specs.wy_check_nodes.Seen.{seen_literal}
+use Rattle.wy_search_spec.specs.wy_check_spec.valid.Kinds as valid
 use Rattle.wy_search_spec.specs.Classes.{in_one_class, any_denies, denies_equal, constants_apart}
 use Rattle.wy_cong.specs.Pairs.{meets}
 

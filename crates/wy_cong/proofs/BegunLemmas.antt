@@ -2,8 +2,8 @@
 use Rattle.std.proofs.Common.{◌≡◌, ◌∙◌, ◌<◌, ◌≤◌, ◌+◌, ◌⊎◌, inl, inr, Some, ℕ, zero, suc, Bool, true, false, cond, eqb, List, [], ◌∷◌, ◌++◌, map, take, length, append_assoc, refl, sym, ap, ap₂, subst, arith}
 use Rattle.std.proofs.lemmas.List.{append-nil}
 use Rattle.std.proofs.lemmas.Bool.{eqb-true}
-use Rattle.wy_check_spec.specs.judge.Node.{has_formula}
-use Rattle.wy_check_nodes.specs.Seen.{is_denied, seen_formula, signed, AreBare, AreBelow}
+use Rattle.wy_search_spec.specs.wy_check_spec.judge.Node.{has_formula}
+use Rattle.wy_check_splits.specs.wy_check_nodes.Seen.{is_denied, seen_formula, signed, AreBare, AreBelow}
 use Rattle.std.specs.Prelude.{slice_get}
 use Rattle.wy_search_spec.specs.Standing.{below, standing_in, standing_in_parts}
 use Rattle.wy_cong.proofs.GoneLemmas.{all_below, all_there, gone_still, listed_has, listed_or, none_new, number_bare, number_there}

@@ -1,6 +1,6 @@
 -- Names that are bound around a term.
 use Rattle.std.proofs.Common.{◌≡◌, ◌∙◌, ◌||◌, Bool, true, false, cond, List, [], ◌∷◌, ◌++◌, map, refl, sym, ap, ap₂}
-use Rattle.wy_check_spec.specs.judge.Node.{has_formula}
+use Rattle.wy_search_spec.specs.wy_check_spec.judge.Node.{has_formula}
 use Rattle.wy_lemmas.proofs.Choices.{or_none, or_assoc as or_joined, shuffled}
 use Rattle.wy_search_spec.specs.Standing.{Standing, bound_by, have_common, with_unbound}
 use Rattle.wy_check_splits.specs.Free.{is_among}

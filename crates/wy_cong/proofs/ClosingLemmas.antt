@@ -4,7 +4,7 @@ use Rattle.std.specs.Prelude.{slice_get}
 use Rattle.std.proofs.lemmas.List.{drop_more}
 use Rattle.wy_lemmas.proofs.Lists.{drop_here}
 use Rattle.wy_term.specs.Term.{Term}
-use Rattle.wy_check_nodes.specs.Seen.{seen_literal}
+use Rattle.wy_check_splits.specs.wy_check_nodes.Seen.{seen_literal}
 use Rattle.wy_search_spec.specs.Classes.{with_literal, with_equations, with_congruent, with_all_congruent, rounds}
 
 -- what is left comes to what all came to

@@ -10,7 +10,7 @@ use Rattle.wy_term.specs.Rewriting.{as_constant}
 use Rattle.wy_check_splits.specs.Constants.{datum_of}
 use Rattle.wy_check_splits.specs.declared.constants.Constant.{Constant}
 use Rattle.wy_check_splits.specs.declared.constants.Constant.TheVariants as constant
-use Rattle.wy_check_spec.specs.valid.Kinds.{are_apart}
+use Rattle.wy_search_spec.specs.wy_check_spec.valid.Kinds.{are_apart}
 use Rattle.wy_search_spec.specs.Classes.{in_one_class, constants_apart, any_apart}
 use Rattle.wy_cong.specs.declared.groups.Group.{Group}
 use Rattle.wy_cong.specs.Pairs.{apart_in_class}

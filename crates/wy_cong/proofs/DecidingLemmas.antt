@@ -1,11 +1,11 @@
 -- A node with one literal more, what it is judged by, and the node as it was.
 use Rattle.std.proofs.Common.{◌≡◌, ◌∙◌, ℕ, Bool, true, false, cond, List, [], ◌∷◌, ◌++◌, map, refl, ap}
-use Rattle.wy_check_spec.specs.judge.Judgement.{of_atom}
-use Rattle.wy_check_spec.specs.judge.Node.{Literal, Node, has_literal, with_literal}
-use Rattle.wy_check_spec.specs.declared.judge.verdict.Verdict.{Verdict}
-use Rattle.wy_check_spec.specs.declared.judge.verdict.Verdict.TheVariants.{Yes, No, Open}
-use Rattle.wy_check_nodes.specs.Seen.{seen_branch, seen_formula, seen_literal}
-use Rattle.wy_check_nodes.specs.declared.branch.Branch.{Branch}
+use Rattle.wy_search_spec.specs.wy_check_spec.judge.Judgement.{of_atom}
+use Rattle.wy_search_spec.specs.wy_check_spec.judge.Node.{Literal, Node, has_literal, with_literal}
+use Rattle.wy_search_spec.specs.wy_check_spec.declared.judge.verdict.Verdict.{Verdict}
+use Rattle.wy_search_spec.specs.wy_check_spec.declared.judge.verdict.Verdict.TheVariants.{Yes, No, Open}
+use Rattle.wy_check_splits.specs.wy_check_nodes.Seen.{seen_branch, seen_formula, seen_literal}
+use Rattle.wy_check_splits.specs.wy_check_nodes.declared.branch.Branch.{Branch}
 use Rattle.wy_search_spec.specs.Splitting.{is_open}
 use Rattle.wy_cong.specs.Once.{SameBranch}
 use Rattle.wy_cong.specs.Unmet.{with_one}

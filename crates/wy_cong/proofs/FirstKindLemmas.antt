@@ -9,7 +9,7 @@ use Rattle.wy_term.specs.Term.{DataKind, Term}
 use Rattle.wy_term.specs.Nodes.{plain_kind}
 use Rattle.wy_term.specs.Same.{same_kind, same_term}
 use Rattle.wy_term.proofs.SameLemmas.{kinds_are, kinds_self}
-use Rattle.wy_check_spec.specs.valid.Kinds as valid
+use Rattle.wy_search_spec.specs.wy_check_spec.valid.Kinds as valid
 use Rattle.wy_search_spec.specs.Classes.{in_one_class, kinds_with, any_kinds}
 use Rattle.wy_cong.specs.declared.kinds.Kinded.{Kinded}
 use Rattle.wy_cong.specs.Firsts.{kind_at, kind_in, HaveKinds, IsFirst, IsOther, KeepsKinds}

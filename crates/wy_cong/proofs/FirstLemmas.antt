@@ -2,11 +2,11 @@
 use Rattle.std.proofs.Common.{◌≡◌, ◌∙◌, ◌+◌, ◌<◌, ℕ, zero, suc, Bool, true, false, cond, List, [], ◌∷◌, map, drop, Option, Some, None, refl, sym, ap, subst, arith}
 use Rattle.std.proofs.lemmas.List.{append-nil}
 use Rattle.std.specs.Prelude.{slice_get}
-use Rattle.wy_check_spec.specs.judge.Judgement.{judged, turned}
-use Rattle.wy_check_spec.specs.judge.Node.{Literal, Node}
-use Rattle.wy_check_spec.specs.declared.judge.verdict.Verdict.{Verdict}
-use Rattle.wy_check_spec.specs.declared.judge.verdict.Verdict.TheVariants.{Yes, No, Open}
-use Rattle.wy_check_nodes.specs.Seen.{AreBelow, seen_formula, signed}
+use Rattle.wy_search_spec.specs.wy_check_spec.judge.Judgement.{judged, turned}
+use Rattle.wy_search_spec.specs.wy_check_spec.judge.Node.{Literal, Node}
+use Rattle.wy_search_spec.specs.wy_check_spec.declared.judge.verdict.Verdict.{Verdict}
+use Rattle.wy_search_spec.specs.wy_check_spec.declared.judge.verdict.Verdict.TheVariants.{Yes, No, Open}
+use Rattle.wy_check_splits.specs.wy_check_nodes.Seen.{AreBelow, seen_formula, signed}
 use Rattle.wy_lemmas.proofs.Lists.{drop_here}
 use Rattle.wy_lemmas.proofs.Options.{some_is}
 use Rattle.wy_search_spec.specs.Splitting.{atoms_in, atoms_of, first_forced, first_open, first_undecided, is_forced, is_open, next_atom, or_else}

@@ -2,12 +2,12 @@
 use Rattle.std.proofs.Common.{◌≡◌, ◌∙◌, ◌&&◌, ◌||◌, ◌⊎◌, ◌≤◌, ◌+◌, inl, inr, ℕ, zero, suc, Some, Bool, true, false, not, cond, List, [], ◌∷◌, ◌++◌, map, length, refl, sym, ap, subst, arith}
 use Rattle.std.specs.Prelude.{slice_get}
 use Rattle.wy_items.specs.few.Signed.{is_among, listed}
-use Rattle.wy_check_spec.specs.judge.Node.{has_formula}
+use Rattle.wy_search_spec.specs.wy_check_spec.judge.Node.{has_formula}
 use Rattle.wy_lemmas.proofs.Choices.{both_true as both_so}
 use Rattle.wy_search_spec.specs.Standing.{Standing, have_common, standing_in}
 use Rattle.wy_cong.specs.Begun.{has_all, IsGoneThrough}
 use Rattle.wy_cong.specs.Marks.{all_marked, is_any_bound, listed_unless, with_unmarked}
-use Rattle.wy_check_nodes.specs.Seen.{is_denied, seen_formula, AreBare}
+use Rattle.wy_check_splits.specs.wy_check_nodes.Seen.{is_denied, seen_formula, AreBare}
 use Rattle.wy_term.proofs.SameLemmas.{terms_are, terms_self}
 use Rattle.wy_term.specs.Same.{same_term}
 use Rattle.wy_term.specs.Scope.{free_names}

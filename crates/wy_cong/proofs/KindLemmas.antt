@@ -3,8 +3,8 @@ use Rattle.std.proofs.Common.{◌≡◌, ◌∙◌, ◌+◌, ℕ, List, ◌++◌
 use Rattle.std.specs.Prelude.{slice_get}
 use Rattle.wy_lemmas.proofs.Lists.{drop_here}
 use Rattle.wy_term.specs.Term.{Term}
-use Rattle.wy_check_nodes.specs.Seen.{seen_literal}
-use Rattle.wy_check_spec.specs.valid.Kinds as valid
+use Rattle.wy_check_splits.specs.wy_check_nodes.Seen.{seen_literal}
+use Rattle.wy_search_spec.specs.wy_check_spec.valid.Kinds as valid
 use Rattle.wy_search_spec.specs.Classes.{kind_by, kinds_by}
 use Rattle.wy_cong.specs.declared.kinds.Kinded.{Kinded}
 

@@ -50,8 +50,8 @@ pub mod FirstKindLemmas
 pub mod ConstantLemmas
 pub mod congruence_closure_lemmas
 -- passed on to the crates above
-pub use Rattle.wy_check_nodes.proofs as wy_check_nodes_proofs
-pub use Rattle.wy_check_spec.proofs as wy_check_spec_proofs
+pub use Rattle.wy_check_splits.proofs.wy_check_nodes_proofs as wy_check_nodes_proofs
+pub use Rattle.wy_search_spec.proofs.wy_check_spec_proofs as wy_check_spec_proofs
 pub use Rattle.wy_check_splits.proofs as wy_check_splits_proofs
 pub use Rattle.wy_search_spec.proofs.wy_facts_proofs as wy_facts_proofs
 pub use Rattle.wy_search_spec.proofs.wy_lin_eliminate_proofs as wy_lin_eliminate_proofs

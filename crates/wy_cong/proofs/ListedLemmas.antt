@@ -5,8 +5,8 @@ use Rattle.std.specs.Prelude.{is_some, is_none, slice_get}
 use Rattle.wy_cong.proofs.WalkLemmas.{below_last}
 use Rattle.wy_cong.specs.Once.{once}
 use Rattle.wy_items.specs.few.Places.{number_place}
-use Rattle.wy_check_spec.specs.judge.Node.{has_formula}
-use Rattle.wy_check_nodes.specs.Seen.{AreBelow}
+use Rattle.wy_search_spec.specs.wy_check_spec.judge.Node.{has_formula}
+use Rattle.wy_check_splits.specs.wy_check_nodes.Seen.{AreBelow}
 use Rattle.wy_lemmas.proofs.Lists.{map_pushed as map_last}
 use Rattle.wy_lemmas.proofs.Options.{some_is}
 use Rattle.wy_check_splits.proofs.JoinedLemmas.{Forward}

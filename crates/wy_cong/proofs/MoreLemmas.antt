@@ -4,20 +4,20 @@ use Rattle.std.specs.Bool.{beq}
 use Rattle.std.specs.Prelude.{IfSome}
 use Rattle.wy_cong.proofs.DecidingLemmas.{verdict_by}
 use Rattle.wy_cong.specs.Unmet.{meets, with_one, HasOpen, HasTwoOpen, IsNeeded, IsOpenPart, IsSafe, IsSafeBut, IsSelfOrOpen, StaysOpen}
-use Rattle.wy_check_spec.specs.judge.Judgement.{turned, both, either, of_atom, judged, judged_all, judged_any}
-use Rattle.wy_check_spec.specs.judge.Node.{Literal, has_formula, has_literal, same_literal}
-use Rattle.wy_check_spec.specs.declared.judge.verdict.Verdict.{Verdict}
-use Rattle.wy_check_spec.specs.declared.judge.verdict.Verdict.TheVariants.{Yes, No, Open}
-use Rattle.wy_check_nodes.proofs.JudgingLemmas.{both_no, either_yes, no_by_sign}
+use Rattle.wy_search_spec.specs.wy_check_spec.judge.Judgement.{turned, both, either, of_atom, judged, judged_all, judged_any}
+use Rattle.wy_search_spec.specs.wy_check_spec.judge.Node.{Literal, has_formula, has_literal, same_literal}
+use Rattle.wy_search_spec.specs.wy_check_spec.declared.judge.verdict.Verdict.{Verdict}
+use Rattle.wy_search_spec.specs.wy_check_spec.declared.judge.verdict.Verdict.TheVariants.{Yes, No, Open}
+use Rattle.wy_check_splits.proofs.wy_check_nodes_proofs.JudgingLemmas.{both_no, either_yes, no_by_sign}
 use Rattle.wy_lemmas.proofs.Choices.{or_none as or_no, or_true as or_so, both_parts as both_so}
 use Rattle.wy_search_spec.specs.Splitting.{atoms_in, atoms_in_parts, is_open, joined_atoms}
 use Rattle.wy_term.proofs.SameLemmas.{terms_are, terms_self}
 use Rattle.wy_term.specs.Same.{same_term}
 use Rattle.wy_term.specs.Term as term
-use Rattle.wy_check_nodes.specs.Judged.{fails, is_connective}
-use Rattle.wy_check_nodes.specs.Seen.{signed}
+use Rattle.wy_check_splits.specs.wy_check_nodes.Judged.{fails, is_connective}
+use Rattle.wy_check_splits.specs.wy_check_nodes.Seen.{signed}
 use Rattle.wy_term.specs.Term.{Term, Of, Parts, no_parts, part, Not}
-use Rattle.wy_check_spec.specs.valid.Literals.{any_no, is_no}
+use Rattle.wy_search_spec.specs.wy_check_spec.valid.Literals.{any_no, is_no}
 
 abbrev literal : Term → Bool → Literal
 literal a holds = record { atom = a; holds = holds }

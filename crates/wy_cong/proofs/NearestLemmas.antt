@@ -12,12 +12,12 @@ use Rattle.wy_cong.specs.Reached.{forces, is_forced_among, refuted_by, seen_unme
 use Rattle.wy_cong.specs.Unmet.{with_one, ArePlain}
 use Rattle.wy_cong.specs.declared.unmet.Reached.{Reached}
 use Rattle.wy_items.specs.few.Places.{number_place}
-use Rattle.wy_check_spec.specs.judge.Judgement.{judged, of_atom}
-use Rattle.wy_check_spec.specs.judge.Node.{Literal, Node, with_literal}
-use Rattle.wy_check_spec.specs.declared.judge.verdict.Verdict.{Verdict}
-use Rattle.wy_check_nodes.proofs.NameLemmas.{NamesOnce}
-use Rattle.wy_check_nodes.specs.Judged.{fails, is_connective}
-use Rattle.wy_check_nodes.specs.Seen.{AreBelow}
+use Rattle.wy_search_spec.specs.wy_check_spec.judge.Judgement.{judged, of_atom}
+use Rattle.wy_search_spec.specs.wy_check_spec.judge.Node.{Literal, Node, with_literal}
+use Rattle.wy_search_spec.specs.wy_check_spec.declared.judge.verdict.Verdict.{Verdict}
+use Rattle.wy_check_splits.proofs.wy_check_nodes_proofs.NameLemmas.{NamesOnce}
+use Rattle.wy_check_splits.specs.wy_check_nodes.Judged.{fails, is_connective}
+use Rattle.wy_check_splits.specs.wy_check_nodes.Seen.{AreBelow}
 use Rattle.wy_lemmas.proofs.Choices.{or_none}
 use Rattle.wy_lemmas.proofs.Lists.{drop_here, drop_end}
 use Rattle.wy_lemmas.proofs.Options.{some_is}
@@ -25,7 +25,7 @@ use Rattle.wy_search_spec.specs.Splitting.{atoms_of, decides, first_forced, is_f
 use Rattle.wy_term.proofs.SameLemmas.{terms_are, terms_self}
 use Rattle.wy_term.specs.Same.{same_term}
 use Rattle.wy_term.specs.Term.{Term}
-use Rattle.wy_check_spec.specs.valid.Literals.{any_no, is_no}
+use Rattle.wy_search_spec.specs.wy_check_spec.valid.Literals.{any_no, is_no}
 
 -- ---- one formula, with one literal more
 

@@ -1,6 +1,6 @@
 -- Terms listed once each, and the first that passes a test.
 use Rattle.std.proofs.Common.{◌≡◌, ◌||◌, Bool, true, false, cond, List, [], ◌∷◌, ◌++◌, Option, Some, None, refl, sym, ap, subst, ◌∙◌}
-use Rattle.wy_check_spec.specs.judge.Node.{has_formula}
+use Rattle.wy_search_spec.specs.wy_check_spec.judge.Node.{has_formula}
 use Rattle.wy_lemmas.proofs.Choices.{or_none as or_no}
 use Rattle.wy_search_spec.specs.Splitting.{atoms_in, atoms_in_parts, atoms_of, joined_atoms, or_else}
 use Rattle.wy_cong.specs.Once.{first_by, once}

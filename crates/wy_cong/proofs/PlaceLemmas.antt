@@ -8,7 +8,7 @@ use Rattle.std.proofs.lemmas.List.{append-nil}
 use Rattle.wy_term.specs.Term.{Term}
 use Rattle.wy_term.specs.Same.{same_term}
 use Rattle.wy_term.specs.Sorts.{sort_in}
-use Rattle.wy_check_nodes.specs.Seen.{AreBelow, seen_formula}
+use Rattle.wy_check_splits.specs.wy_check_nodes.Seen.{AreBelow, seen_formula}
 use Rattle.wy_search_spec.specs.Classes.{place_from}
 use Rattle.wy_search_spec.specs.Standing.{is_term_sort, only_terms}
 use Rattle.wy_cong.specs.declared.present.Present.{Present}

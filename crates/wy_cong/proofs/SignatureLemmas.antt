@@ -8,7 +8,7 @@ use Rattle.wy_term.specs.Term.{Symbol, Term}
 use Rattle.wy_term.specs.Nodes.{Plain, grown, node_at, parts_at, tree_at, HasPartsBelow}
 use Rattle.wy_term.specs.Same.{same_symbol, same_term}
 use Rattle.wy_term.proofs.SameLemmas.{symbols_are, terms_are}
-use Rattle.wy_check_nodes.specs.Seen.{AreBelow}
+use Rattle.wy_check_splits.specs.wy_check_nodes.Seen.{AreBelow}
 use Rattle.wy_search_spec.specs.Classes.{in_one_class, arguments_equal, are_congruent, joined, label_of, place_from, same_label, with_all_congruent, with_congruent, with_equal}
 use Rattle.wy_cong.proofs.HeadLemmas.{bare_stays}
 use Rattle.wy_cong.proofs.LabelLemmas.{joined_self}

@@ -11,7 +11,7 @@ use Rattle.wy_term.proofs.SharedLemmas.{same_step}
 use Rattle.wy_term.specs.Term.{Symbol, Term, Of, Parts, no_parts, part, two, equal}
 use Rattle.wy_term.specs.Same.{same_symbol, same_term}
 use Rattle.wy_term.proofs.SameLemmas.{symbols_are, terms_are, terms_self}
-use Rattle.wy_check_spec.specs.judge.Node.{Literal, same_literal, has_literal}
+use Rattle.wy_search_spec.specs.wy_check_spec.judge.Node.{Literal, same_literal, has_literal}
 use Rattle.wy_search_spec.specs.Classes.{place_from, label_of, same_label, in_one_class, arguments_equal, are_congruent, relabelled, joined, with_equal, with_literal, with_equations, with_congruent, with_all_congruent, rounds, numbers_from, classes}
 use Rattle.wy_cong.specs.Heads.{moved}
 use Rattle.wy_cong.specs.Congruence.{AreRelated, IsCongruence, ClassesAreSound}

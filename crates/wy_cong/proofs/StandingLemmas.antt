@@ -2,9 +2,9 @@
 use Rattle.std.proofs.Common.{◌≡◌, ◌∙◌, ◌<◌, ◌≤◌, ◌+◌, ◌||◌, Some, ℕ, zero, suc, Bool, true, false, cond, List, [], ◌∷◌, ◌++◌, map, drop, length, append_assoc, refl, sym, ap, subst, arith}
 use Rattle.std.proofs.lemmas.List.{append-nil}
 use Rattle.std.specs.Prelude.{slice_get, slice_index_or}
-use Rattle.wy_check_spec.specs.judge.Node.{Node, has_formula, with_pending}
-use Rattle.wy_check_nodes.proofs.BranchLemmas.{node}
-use Rattle.wy_check_nodes.specs.Seen.{AreOver, seen_formula, seen_literal}
+use Rattle.wy_search_spec.specs.wy_check_spec.judge.Node.{Node, has_formula, with_pending}
+use Rattle.wy_check_splits.proofs.wy_check_nodes_proofs.BranchLemmas.{node}
+use Rattle.wy_check_splits.specs.wy_check_nodes.Seen.{AreOver, seen_formula, seen_literal}
 use Rattle.wy_lemmas.proofs.Lists.{drop_here, drop_end}
 use Rattle.wy_search_spec.specs.Standing.{Standing, have_common, in_formulas, in_literals, standing, standing_in, with_unbound}
 use Rattle.wy_cong.proofs.BoundLemmas.{unmarked_is}

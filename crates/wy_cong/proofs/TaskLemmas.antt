@@ -1,7 +1,7 @@
 -- What tasks lead to.
 use Rattle.std.proofs.Common.{◌≡◌, ◌∙◌, ◌<◌, ◌-◌, ◌||◌, ℕ, zero, suc, true, false, List, [], ◌∷◌, ◌++◌, map, take, length, append_assoc, Option, Some, None, IfSome, refl, sym, ap, ap₂, subst, arith}
 use Rattle.std.proofs.lemmas.List.{append-nil}
-use Rattle.wy_check_nodes.specs.Seen.{AreBelow, signed}
+use Rattle.wy_check_splits.specs.wy_check_nodes.Seen.{AreBelow, signed}
 use Rattle.wy_search_spec.specs.Standing.{Standing, below, bound_by, have_common, all_parts, of_range, standing_in, standing_in_parts}
 use Rattle.wy_check_splits.specs.Free.{is_among}
 use Rattle.wy_cong.proofs.BoundLemmas.{crossing, marked_alone}

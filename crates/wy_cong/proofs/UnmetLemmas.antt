@@ -7,13 +7,13 @@ use Rattle.wy_cong.specs.Once.{once}
 use Rattle.wy_cong.specs.Reached.{refuted_by, seen_unmet, AreEnough, AreWithin, IsWithin, Notes, NotesShared}
 use Rattle.wy_cong.specs.Unmet.{with_one, HasOpen, IsFree, IsOpenPart, IsSafeBut, StaysOpen}
 use Rattle.wy_cong.specs.declared.unmet.Reached.{Reached}
-use Rattle.wy_check_spec.specs.judge.Judgement.{judged}
-use Rattle.wy_check_spec.specs.judge.Node.{Literal, Node, has_formula}
-use Rattle.wy_check_spec.specs.declared.judge.verdict.Verdict.{Verdict}
-use Rattle.wy_check_spec.specs.declared.judge.verdict.Verdict.TheVariants.{Yes, No, Open}
-use Rattle.wy_check_nodes.proofs.JudgingLemmas.{no_by_sign}
-use Rattle.wy_check_nodes.specs.Judged.{fails}
-use Rattle.wy_check_nodes.specs.Seen.{seen_formula}
+use Rattle.wy_search_spec.specs.wy_check_spec.judge.Judgement.{judged}
+use Rattle.wy_search_spec.specs.wy_check_spec.judge.Node.{Literal, Node, has_formula}
+use Rattle.wy_search_spec.specs.wy_check_spec.declared.judge.verdict.Verdict.{Verdict}
+use Rattle.wy_search_spec.specs.wy_check_spec.declared.judge.verdict.Verdict.TheVariants.{Yes, No, Open}
+use Rattle.wy_check_splits.proofs.wy_check_nodes_proofs.JudgingLemmas.{no_by_sign}
+use Rattle.wy_check_splits.specs.wy_check_nodes.Judged.{fails}
+use Rattle.wy_check_splits.specs.wy_check_nodes.Seen.{seen_formula}
 use Rattle.wy_lemmas.proofs.Choices.{or_none, or_assoc as or_one}
 use Rattle.wy_lemmas.proofs.Lists.{drop_here, drop_end}
 use Rattle.wy_lemmas.proofs.Options.{some_is}
@@ -22,7 +22,7 @@ use Rattle.wy_term.proofs.SameLemmas.{terms_are}
 use Rattle.wy_term.specs.Nodes.{parts_at}
 use Rattle.wy_term.specs.Same.{same_term}
 use Rattle.wy_term.specs.Term.{Term}
-use Rattle.wy_check_spec.specs.valid.Literals.{any_no, is_no}
+use Rattle.wy_search_spec.specs.wy_check_spec.valid.Literals.{any_no, is_no}
 
 -- ---- lists
 

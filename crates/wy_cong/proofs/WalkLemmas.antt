@@ -1,7 +1,7 @@
 -- Lists, one item after the other.
 use Rattle.std.proofs.Common.{◌≡◌, ◌<◌, ℕ, zero, suc, List, [], ◌∷◌, ◌++◌, length, get_or, Bool, Some, subst, arith}
 use Rattle.std.specs.Prelude.{slice_get}
-use Rattle.wy_check_nodes.specs.Seen.{AreBare, AreBelow, AreOver, IsBare}
+use Rattle.wy_check_splits.specs.wy_check_nodes.Seen.{AreBare, AreBelow, AreOver, IsBare}
 use Rattle.wy_lemmas.proofs.Options.{some_is}
 use Rattle.wy_term.specs.Term.{Term}
 

@@ -2,7 +2,7 @@
 use Rattle.std.specs.Prelude.{ℕ, nat_eq}
 use Rattle.std.specs.HashMap.{get}
 use Rattle.wy_items.specs.few.Places.{ArePlaced}
-use Rattle.wy_check_nodes.specs.Seen.{AreBelow}
+use Rattle.wy_check_splits.specs.wy_check_nodes.Seen.{AreBelow}
 use Rattle.wy_cong.specs.declared.atoms.Atoms.{Atoms}
 
 -- the numbers are those of the first n terms, and their places are noted

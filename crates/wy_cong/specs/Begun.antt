@@ -1,8 +1,8 @@
 -- Which terms have been gone through, and which are under way.
 use Rattle.std.specs.Prelude.{◌≡◌, ◌<◌, ◌+◌, ◌⊎◌, ℕ, nat_eq, map, List, [], ◌∷◌, ◌++◌, Bool, true, false, Some, slice_get, ◌&&◌, ◌||◌}
 use Rattle.std.specs.HashSet.{contains}
-use Rattle.wy_check_spec.specs.judge.Node.{has_formula}
-use Rattle.wy_check_nodes.specs.Seen.{is_denied, signed}
+use Rattle.wy_search_spec.specs.wy_check_spec.judge.Node.{has_formula}
+use Rattle.wy_check_splits.specs.wy_check_nodes.Seen.{is_denied, signed}
 use Rattle.wy_search_spec.specs.Standing.{standing_in}
 use Rattle.wy_cong.specs.Marks.{all_marked, with_unmarked}
 use Rattle.wy_cong.specs.Walk.{left_at, list_of}

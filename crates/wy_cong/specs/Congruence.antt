@@ -1,7 +1,7 @@
 -- Congruences that have a node's equations, and what the classes are in each of them.
 use Rattle.std.specs.Prelude.{◌≡◌, List, Bool, true}
 use Rattle.wy_term.specs.Term.{Symbol, Term, Of, Parts, no_parts, part, two, equal}
-use Rattle.wy_check_spec.specs.judge.Node.{Literal, has_literal}
+use Rattle.wy_search_spec.specs.wy_check_spec.judge.Node.{Literal, has_literal}
 use Rattle.wy_search_spec.specs.Classes.{classes, in_one_class}
 
 -- pairwise related, and as many of both

@@ -2,7 +2,7 @@
 use Rattle.std.specs.Prelude.{ℕ, ◌<◌, List, map, All}
 use Rattle.wy_term.specs.Term.{Term}
 use Rattle.wy_term.specs.Nodes.{plain_kind}
-use Rattle.wy_check_spec.specs.valid.Kinds as valid
+use Rattle.wy_search_spec.specs.wy_check_spec.valid.Kinds as valid
 use Rattle.wy_cong.specs.declared.kinds.Kinded.{Kinded}
 
 abbrev pub seen_kinded : (ℕ → Term) → Kinded → valid.Kinded

@@ -25,8 +25,8 @@ pub mod Signatures
 pub mod Firsts
 pub mod congruence_closure
 -- passed on to the crates above
-pub use Rattle.wy_check_nodes.specs as wy_check_nodes
-pub use Rattle.wy_check_spec.specs as wy_check_spec
+pub use Rattle.wy_check_splits.specs.wy_check_nodes as wy_check_nodes
+pub use Rattle.wy_search_spec.specs.wy_check_spec as wy_check_spec
 pub use Rattle.wy_check_splits.specs as wy_check_splits
 pub use Rattle.wy_search_spec.specs.wy_facts as wy_facts
 pub use Rattle.wy_search_spec.specs.wy_lin_eliminate as wy_lin_eliminate

@@ -1,6 +1,6 @@
 -- What stands at a place, and whether a name that stands free in it is bound there.
 use Rattle.std.specs.Prelude.{List, [], ◌∷◌, ◌++◌, Bool, false, ◌||◌, if◌then◌else◌}
-use Rattle.wy_check_spec.specs.judge.Node.{has_formula}
+use Rattle.wy_search_spec.specs.wy_check_spec.judge.Node.{has_formula}
 use Rattle.wy_search_spec.specs.Standing.{Standing, have_common}
 use Rattle.wy_check_splits.specs.Free.{is_among}
 use Rattle.wy_term.specs.Scope.{free_names}

@@ -1,8 +1,8 @@
 -- Terms listed once each, and the first that passes a test.
 use Rattle.std.specs.Prelude.{◌≡◌, ℕ, Bool, List, [], ◌∷◌, ◌++◌, Option, Some, None, if◌then◌else◌}
-use Rattle.wy_check_spec.specs.judge.Judgement.{of_atom}
-use Rattle.wy_check_spec.specs.judge.Node.{Node, has_formula}
-use Rattle.wy_check_nodes.specs.declared.branch.Branch.{Branch}
+use Rattle.wy_search_spec.specs.wy_check_spec.judge.Judgement.{of_atom}
+use Rattle.wy_search_spec.specs.wy_check_spec.judge.Node.{Node, has_formula}
+use Rattle.wy_check_splits.specs.wy_check_nodes.declared.branch.Branch.{Branch}
 use Rattle.wy_search_spec.specs.Splitting.{atoms_in, is_open}
 use Rattle.wy_term.specs.Term.{Term}
 

@@ -2,8 +2,8 @@
 use Rattle.std.specs.Prelude.{ℕ, List, Bool, ◌&&◌, ◌||◌, ◌++◌, true, false}
 use Rattle.wy_term.specs.Term.{Term}
 use Rattle.wy_term.specs.Rewriting.{as_constant}
-use Rattle.wy_check_spec.specs.judge.Node.{Literal}
-use Rattle.wy_check_spec.specs.valid.Kinds.{Kinded, are_apart, in_two_kinds, in_one_kind}
+use Rattle.wy_search_spec.specs.wy_check_spec.judge.Node.{Literal}
+use Rattle.wy_search_spec.specs.wy_check_spec.valid.Kinds.{Kinded, are_apart, in_two_kinds, in_one_kind}
 use Rattle.wy_search_spec.specs.Classes.{in_one_class, kinds_by, own_kinds, any_kinds}
 
 -- the two are different constants in one class

@@ -3,12 +3,12 @@ use Rattle.std.specs.Prelude.{◌≡◌, ◌<◌, ◌≤◌, ◌⊎◌, ◌&&◌
 use Rattle.wy_cong.specs.Once.{undecided}
 use Rattle.wy_cong.specs.Unmet.{with_one, IsFree}
 use Rattle.wy_cong.specs.declared.unmet.Reached.{Reached}
-use Rattle.wy_check_spec.specs.judge.Judgement.{judged}
-use Rattle.wy_check_spec.specs.judge.Node.{Literal, Node, has_formula}
-use Rattle.wy_check_nodes.specs.Seen.{seen_formula}
+use Rattle.wy_search_spec.specs.wy_check_spec.judge.Judgement.{judged}
+use Rattle.wy_search_spec.specs.wy_check_spec.judge.Node.{Literal, Node, has_formula}
+use Rattle.wy_check_splits.specs.wy_check_nodes.Seen.{seen_formula}
 use Rattle.wy_term.specs.Same.{same_term}
 use Rattle.wy_term.specs.Term.{Term}
-use Rattle.wy_check_spec.specs.valid.Literals.{any_no, is_no}
+use Rattle.wy_search_spec.specs.wy_check_spec.valid.Literals.{any_no, is_no}
 
 -- the formula, or its denial
 abbrev pub seen_unmet : (ℕ → Term) → Reached → Term

@@ -4,7 +4,7 @@ use Rattle.std.specs.HashMap.{get}
 use Rattle.wy_items.specs.few.Places as places
 use Rattle.wy_term.specs.Nodes.{Plain}
 use Rattle.wy_term.specs.Term.{Term}
-use Rattle.wy_check_nodes.specs.Seen.{AreBelow}
+use Rattle.wy_check_splits.specs.wy_check_nodes.Seen.{AreBelow}
 use Rattle.wy_cong.specs.declared.present.Present.{Present}
 
 -- the terms present, where `at` gives the term of a number

@@ -1,14 +1,14 @@
 -- Which pending formulas one literal more can refute.
 use Rattle.std.specs.Prelude.{◌≡◌, ◌⊎◌, ◌++◌, Bool, true, false, not, List, [], ◌∷◌}
-use Rattle.wy_check_spec.specs.judge.Judgement.{judged, of_atom}
-use Rattle.wy_check_spec.specs.judge.Node.{Literal, has_formula}
-use Rattle.wy_check_spec.specs.declared.judge.verdict.Verdict.{Verdict}
-use Rattle.wy_check_spec.specs.declared.judge.verdict.Verdict.TheVariants.{Yes, No, Open}
-use Rattle.wy_check_nodes.specs.Judged.{is_connective}
+use Rattle.wy_search_spec.specs.wy_check_spec.judge.Judgement.{judged, of_atom}
+use Rattle.wy_search_spec.specs.wy_check_spec.judge.Node.{Literal, has_formula}
+use Rattle.wy_search_spec.specs.wy_check_spec.declared.judge.verdict.Verdict.{Verdict}
+use Rattle.wy_search_spec.specs.wy_check_spec.declared.judge.verdict.Verdict.TheVariants.{Yes, No, Open}
+use Rattle.wy_check_splits.specs.wy_check_nodes.Judged.{is_connective}
 use Rattle.wy_search_spec.specs.Splitting.{atoms_in, is_open}
 use Rattle.wy_term.specs.Same.{same_term}
 use Rattle.wy_term.specs.Term.{Term, Parts, no_parts, part}
-use Rattle.wy_check_spec.specs.valid.Literals.{is_no}
+use Rattle.wy_search_spec.specs.wy_check_spec.valid.Literals.{is_no}
 
 -- the literals, and behind them one more
 abbrev pub with_one : List Literal → Term → Bool → List Literal

@@ -2,7 +2,7 @@
 use Rattle.std.specs.Prelude.{ℕ, suc, ◌<◌, length, map, Option, Some, None, List, [], ◌∷◌, ◌++◌, Bool, true, false, if◌then◌else◌}
 use Rattle.wy_items.specs.few.Signed.{IsSignedSet}
 use Rattle.wy_items.specs.declared.few.signed.SignedSet.{SignedSet}
-use Rattle.wy_check_nodes.specs.Seen.{AreBare, AreBelow, AreOver, seen_formula, signed}
+use Rattle.wy_check_splits.specs.wy_check_nodes.Seen.{AreBare, AreBelow, AreOver, seen_formula, signed}
 use Rattle.wy_search_spec.specs.Standing.{standing_in}
 use Rattle.wy_cong.specs.Marks.{all_marked, with_unmarked}
 use Rattle.wy_cong.specs.declared.task.Task.{Task}

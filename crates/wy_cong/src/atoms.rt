@@ -2,7 +2,7 @@
 ghost use Rattle.std.specs.Prelude.{◌≡◌, ◌<◌, ◌++◌, ℕ, [], ◌∷◌, Some, map, length, slice_get, nat_eq, IfOk, OnOk};
 ghost use Rattle.std.specs.HashMap.{get};
 ghost use Rattle.wy_items.specs.few.Places.{number_place, ArePlaced};
-ghost use Rattle.wy_check_nodes.specs.Seen.{AreBelow, AreOver, seen_formula};
+ghost use Rattle.wy_check_splits.specs.wy_check_nodes.Seen.{AreBelow, AreOver, seen_formula};
 ghost use Rattle.wy_search_spec.specs.Splitting.{atoms_in, atoms_of};
 ghost use Rattle.wy_cong.specs.Atoms.{AreAtoms};
 ghost use Rattle.wy_cong.specs.Once.{atoms_at, once};

@@ -1,6 +1,6 @@
 //! Whether a name that stands free in a term is bound around it.
 ghost use Rattle.std.specs.Prelude.{◌≡◌, ◌<◌, length, map, slice_index_or, IfOk};
-ghost use Rattle.wy_check_nodes.specs.Seen.{AreBelow};
+ghost use Rattle.wy_check_splits.specs.wy_check_nodes.Seen.{AreBelow};
 ghost use Rattle.wy_cong.specs.Marks.{binds_one, is_any_bound};
 ghost use Rattle.wy_term.specs.Nodes.{tree_at};
 ghost use Rattle.wy_term.specs.Scope.{free_names};

@@ -1,18 +1,18 @@
 //! The atom on which a node splits.
 ghost use Rattle.std.specs.Prelude.{◌≡◌, ◌<◌, ◌++◌, [], ◌∷◌, true, Some, map, length, option_map, slice_get, IfOk, IfSome, OnOk};
-ghost use Rattle.wy_check_spec.specs.judge.Judgement.{judged, of_atom};
-ghost use Rattle.wy_check_nodes.specs.Seen.{IsBranch, seen_branch, seen_formula};
+ghost use Rattle.wy_search_spec.specs.wy_check_spec.judge.Judgement.{judged, of_atom};
+ghost use Rattle.wy_check_splits.specs.wy_check_nodes.Seen.{IsBranch, seen_branch, seen_formula};
 ghost use Rattle.wy_search_spec.specs.Splitting as splitting;
 ghost use Rattle.wy_cong.specs.Atoms.{AreAtoms};
 ghost use Rattle.wy_cong.specs.Once.{SameBranch, first_by, once, undecided};
 ghost use Rattle.wy_cong.specs.Reached.{AreEnough, AreWithin, IsNearer, IsWithin, forces, seen_unmet};
 ghost use Rattle.wy_cong.specs.Unmet.{ArePlain, with_one};
 ghost use Rattle.wy_term.specs.Nodes.{tree_at};
-ghost use Rattle.wy_check_spec.specs.valid.Literals.{any_no, is_no};
+ghost use Rattle.wy_search_spec.specs.wy_check_spec.valid.Literals.{any_no, is_no};
 
 use crate::atoms::{Atoms, atom_at, atom_if_there, list_atoms, no_atoms, place_of_atom};
 use crate::unmet::{Reached, is_open, is_undecided, unmet};
-use wy_check_nodes::{Branch, add_literal, back_to, fails, judge, nothing_known, pending_at};
+use wy_check_splits::{Branch, add_literal, back_to, fails, judge, nothing_known, pending_at};
 use wy_term::{NoMemory, Terms};
 
 // The formula with a place in the list.

@@ -2,7 +2,7 @@
 ghost use Rattle.std.specs.Prelude.{◌≡◌, length, IfOk};
 ghost use Rattle.wy_cong.specs.Seen.{terms_of, IsPresent};
 ghost use Rattle.wy_cong.specs.Pairs.{kinds_clash};
-ghost use Rattle.wy_check_nodes.specs.Seen.{IsBranch, seen_branch};
+ghost use Rattle.wy_check_splits.specs.wy_check_nodes.Seen.{IsBranch, seen_branch};
 ghost use Rattle.wy_search_spec.specs.Classes as classes;
 ghost use Rattle.wy_term.specs.Nodes.{tree_at};
 
@@ -11,7 +11,7 @@ use crate::firsts::kinds_agree;
 use crate::kinds::{kinds_by, with_own_kinds};
 use crate::meeting::any_kinds;
 use crate::present::Present;
-use wy_check_nodes::Branch;
+use wy_check_splits::Branch;
 use wy_term::{NoMemory, Terms};
 
 // Whether a class has two kinds, or a kind and its denial. Where no kind is given, none has, and none that is denied is listed.

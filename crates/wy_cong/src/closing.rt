@@ -3,7 +3,7 @@ ghost use Rattle.std.specs.Prelude.{◌≡◌, ◌<◌, length, map, IfOk};
 ghost use Rattle.wy_cong.specs.Heads.{pair_joined};
 ghost use Rattle.wy_cong.specs.Seen.{terms_of, IsPresent};
 ghost use Rattle.wy_cong.specs.Signatures.{AreGrouped};
-ghost use Rattle.wy_check_nodes.specs.Seen.{IsBranch, seen_branch};
+ghost use Rattle.wy_check_splits.specs.wy_check_nodes.Seen.{IsBranch, seen_branch};
 ghost use Rattle.wy_search_spec.specs.Classes as classes;
 ghost use Rattle.wy_term.specs.Nodes.{tree_at};
 
@@ -12,7 +12,7 @@ use crate::groups::{Groups, grouped, is_settled};
 use crate::labels::{are_same, copied, first_labels, joined};
 use crate::places::label_of;
 use crate::present::Present;
-use wy_check_nodes::{Branch, nth_literal};
+use wy_check_splits::{Branch, nth_literal};
 use wy_term::{NoMemory, Node, Terms};
 
 // The classes of two terms become one.

@@ -3,7 +3,7 @@ ghost use Rattle.std.specs.Prelude.{◌≡◌, ◌<◌, [], true, false, length,
 ghost use Rattle.wy_cong.specs.Heads.{tag_of, BeginsWith};
 ghost use Rattle.wy_cong.specs.Seen.{terms_of, IsPresent};
 ghost use Rattle.wy_cong.specs.Signatures.{is_leaf};
-ghost use Rattle.wy_check_nodes.specs.Seen.{AreBelow};
+ghost use Rattle.wy_check_splits.specs.wy_check_nodes.Seen.{AreBelow};
 ghost use Rattle.wy_search_spec.specs.Classes as classes;
 ghost use Rattle.wy_term_subst.specs.Substitution.{renumbered};
 ghost use Rattle.wy_term.specs.Nodes.{plain, tree_at, parts_at};

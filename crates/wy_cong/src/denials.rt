@@ -4,7 +4,7 @@ ghost use Rattle.std.specs.HashMap.{get};
 ghost use Rattle.wy_cong.specs.Seen.{terms_of, IsPresent};
 ghost use Rattle.wy_cong.specs.Pairs.{apart_in_class};
 ghost use Rattle.wy_cong.specs.Signatures.{IsNoted, IsTold, Keeps};
-ghost use Rattle.wy_check_nodes.specs.Seen.{IsBranch, seen_branch};
+ghost use Rattle.wy_check_splits.specs.wy_check_nodes.Seen.{IsBranch, seen_branch};
 ghost use Rattle.wy_search_spec.specs.Classes as classes;
 ghost use Rattle.wy_term.specs.Nodes.{tree_at};
 
@@ -12,8 +12,7 @@ use crate::groups::{Groups, note};
 use crate::places::{class_number, in_one_class};
 use crate::present::Present;
 use std::collections::HashMap;
-use wy_check_nodes::{Branch, nth_literal};
-use wy_check_splits::{are_apart, constant_at};
+use wy_check_splits::{Branch, are_apart, constant_at, nth_literal};
 use wy_term::{NoMemory, Node, Terms};
 
 // Whether this is a denied equation inside a class.

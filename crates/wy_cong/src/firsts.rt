@@ -8,7 +8,7 @@ ghost use Rattle.wy_search_spec.specs.Classes as classes;
 ghost use Rattle.wy_term.specs.Nodes.{plain_kind, tree_at};
 ghost use Rattle.wy_term.specs.Same.{same_kind as same_kind_of};
 ghost use Rattle.wy_term.specs.Term.{DataKind};
-ghost use Rattle.wy_check_spec.specs.valid.Kinds.{in_one_kind, in_two_kinds};
+ghost use Rattle.wy_search_spec.specs.wy_check_spec.valid.Kinds.{in_one_kind, in_two_kinds};
 
 use crate::kinds::Kinded;
 use crate::places::class_number;

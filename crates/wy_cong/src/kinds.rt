@@ -2,13 +2,12 @@
 ghost use Rattle.std.specs.Prelude.{◌≡◌, ◌<◌, ◌++◌, ◌∷◌, [], length, IfOk, OnOk};
 ghost use Rattle.wy_cong.specs.Seen.{terms_of, IsPresent};
 ghost use Rattle.wy_cong.specs.Kinded.{kinded, AreKinded};
-ghost use Rattle.wy_check_nodes.specs.Seen.{IsBranch, seen_branch};
+ghost use Rattle.wy_check_splits.specs.wy_check_nodes.Seen.{IsBranch, seen_branch};
 ghost use Rattle.wy_search_spec.specs.Classes as classes;
 ghost use Rattle.wy_term.specs.Nodes.{tree_at};
 
 use crate::present::Present;
-use wy_check_nodes::{Branch, nth_literal};
-use wy_check_splits::{copied_kind, kind_given};
+use wy_check_splits::{Branch, copied_kind, kind_given, nth_literal};
 use wy_term::{Kind, NoMemory, Node, Terms};
 
 /// A term of a kind.

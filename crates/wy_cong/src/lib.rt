@@ -53,3 +53,4 @@ pub use closing::classes;
 pub use places::in_one_class;
 pub use present::{Present, place, terms_present};
 pub use walk::standing;
+pub use wy_check_splits::{Branch, form_at, nth_literal, pending_at};

@@ -1,7 +1,7 @@
 //! The terms present in a node.
 ghost use Rattle.std.specs.Prelude.{◌≡◌, ◌<◌, ◌++◌, ◌∷◌, [], length, map, IfOk, OnOk};
 ghost use Rattle.wy_cong.specs.Seen.{terms_of, ArePlaced, IsPresent};
-ghost use Rattle.wy_check_nodes.specs.Seen.{AreBelow, IsBranch, seen_branch, seen_formula};
+ghost use Rattle.wy_check_splits.specs.wy_check_nodes.Seen.{AreBelow, IsBranch, seen_branch, seen_formula};
 ghost use Rattle.wy_search_spec.specs.Standing.{is_term_sort, only_terms, present as present_in};
 ghost use Rattle.wy_search_spec.specs.Classes.{place_from};
 ghost use Rattle.wy_term.specs.Nodes.{tree_at};
@@ -9,7 +9,7 @@ ghost use Rattle.wy_term.specs.Sorts.{sort_in};
 
 use crate::walk::{listed, listed_at};
 use std::collections::HashMap;
-use wy_check_nodes::Branch;
+use wy_check_splits::Branch;
 use wy_items::few::{place_among, push_number};
 use wy_term::{NoMemory, Node, Terms};
 

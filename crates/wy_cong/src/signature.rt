@@ -2,7 +2,7 @@
 ghost use Rattle.std.specs.Prelude.{◌≡◌, ◌<◌, ◌∷◌, [], length, map, IfOk};
 ghost use Rattle.wy_cong.specs.Seen.{terms_of, IsPresent};
 ghost use Rattle.wy_cong.specs.Signatures.{class_at, head_number as head_number_of, mixed as mixed_with, mixed_all, mixed_names, signature as signature_of};
-ghost use Rattle.wy_check_nodes.specs.Seen.{AreBelow};
+ghost use Rattle.wy_check_splits.specs.wy_check_nodes.Seen.{AreBelow};
 ghost use Rattle.wy_term.specs.Nodes.{plain, node_at, tree_at};
 
 use crate::congruent::tag;

@@ -4,21 +4,23 @@
 //! no single literal. One with an undecided member is refuted by no literal of another atom, and one with open members only
 //! by literals of an atom that stands in each of these.
 ghost use Rattle.std.specs.Prelude.{◌≡◌, ◌<◌, true, false, Some, map, length, slice_get, IfNone, IfOk, IfSome, OnOk};
-ghost use Rattle.wy_check_nodes.specs.Judged.{fails};
-ghost use Rattle.wy_check_nodes.specs.Seen.{AreBelow, IsBranch, seen_branch, seen_formula};
+ghost use Rattle.wy_check_splits.specs.wy_check_nodes.Judged.{fails};
+ghost use Rattle.wy_check_splits.specs.wy_check_nodes.Seen.{AreBelow, IsBranch, seen_branch, seen_formula};
 ghost use Rattle.wy_cong.specs.Atoms.{AreAtoms};
 ghost use Rattle.wy_cong.specs.Unmet.{meets, HasOpen, HasTwoOpen, IsNeeded, IsSafe, IsSafeBut, IsSelfOrOpen, StaysOpen};
 ghost use Rattle.wy_cong.specs.Reached.{AreEnough, AreWithin, Notes, NotesShared};
-ghost use Rattle.wy_check_spec.specs.judge.Judgement.{judged, of_atom};
+ghost use Rattle.wy_search_spec.specs.wy_check_spec.judge.Judgement.{judged, of_atom};
 ghost use Rattle.wy_search_spec.specs.Splitting as splitting;
 ghost use Rattle.wy_search_spec.specs.Splitting.{atoms_in};
 ghost use Rattle.wy_term.specs.Nodes.{parts_at, tree_at};
 ghost use Rattle.wy_term.specs.Same.{same_term};
-ghost use Rattle.wy_check_spec.specs.valid.Literals.{any_no};
+ghost use Rattle.wy_search_spec.specs.wy_check_spec.valid.Literals.{any_no};
 
 use crate::atoms::{Atoms, atom_at, list_atoms, no_atoms, place_of_atom};
-use wy_check_nodes::{Branch, fails, has_literal, is_connective, judge, nothing_known, pending_at};
-use wy_check_spec::judge::Verdict;
+use wy_check_splits::{
+    Branch, fails, has_literal, is_connective, judge, nothing_known, pending_at,
+};
+use wy_search_spec::judge::Verdict;
 use wy_term::{NoMemory, Node, Terms};
 
 /// A pending formula, or its denial, and an atom of which a literal may refute it.

@@ -1,8 +1,8 @@
 //! The walk through a node.
 ghost use Rattle.std.specs.Prelude.{◌≡◌, ◌<◌, ◌++◌, [], ◌∷◌, false, true, Some, nat_eq, length, map, slice_get, IfOk, IfSome, OnOk};
 ghost use Rattle.std.specs.HashSet.{contains};
-ghost use Rattle.wy_check_spec.specs.judge.Node.{has_formula};
-ghost use Rattle.wy_check_nodes.specs.Seen.{IsBare, IsBranch, seen_branch, seen_formula};
+ghost use Rattle.wy_search_spec.specs.wy_check_spec.judge.Node.{has_formula};
+ghost use Rattle.wy_check_splits.specs.wy_check_nodes.Seen.{IsBare, IsBranch, seen_branch, seen_formula};
 ghost use Rattle.wy_search_spec.specs.Standing as search;
 ghost use Rattle.wy_cong.specs.Begun.{AreBegun, BeginListed, BeginsMet, BeginsOne};
 ghost use Rattle.wy_cong.specs.Heads.{BeginsWith};
@@ -15,7 +15,7 @@ ghost use Rattle.wy_term.specs.Scope.{free_names};
 use crate::caught::is_caught;
 use crate::task::Task;
 use std::collections::{HashSet, VecDeque};
-use wy_check_nodes::{Branch, add_pending, bare, nth_literal, pending_at};
+use wy_check_splits::{Branch, add_pending, bare, nth_literal, pending_at};
 use wy_data::Name;
 use wy_items::few::{SignedSet, no_signed};
 use wy_term::{NoMemory, Node, Quantifier, Terms};

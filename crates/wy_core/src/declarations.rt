@@ -2,8 +2,7 @@
 use crate::expressions::Expr;
 use crate::statements::Stmt;
 use crate::types::Ty;
-use wy_data::Name;
-use wy_items::Items;
+use wy_value::{Items, Name};
 
 /// A program: its declarations in the order of the source. The types have the numbers from 0 in
 /// this order, and so have functions and methods together. `print` and `print_int` have the two

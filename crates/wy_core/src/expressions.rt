@@ -1,7 +1,6 @@
 //! Expressions of the core.
 use crate::types::Ty;
-use wy_data::Name;
-use wy_items::{Boxed, Items};
+use wy_value::{Boxed, Items, Name};
 
 /// The operator of two operands.
 #[derive(Clone, Copy, PartialEq, Eq)]

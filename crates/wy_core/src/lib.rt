@@ -25,3 +25,4 @@ pub use declarations::{Alias, Core, Decl, Output, Param, Routine};
 pub use expressions::{Expr, ExprKind, Op};
 pub use statements::{Step, StepKind, Stmt, StmtKind};
 pub use types::{Atom, Conjunct, Part, Signed, Ty, TyKind};
+pub use wy_value::Name;

@@ -1,8 +1,7 @@
 //! Statements of the core.
 use crate::expressions::Expr;
 use crate::types::Ty;
-use wy_data::Name;
-use wy_items::Items;
+use wy_value::{Items, Name};
 
 /// A statement, with the byte offset of its first token in the source. A statement that lowering
 /// made has the place of the one for which it was made.

@@ -1,6 +1,5 @@
 //! Types of the core, and their normal forms.
-use wy_data::Name;
-use wy_items::{Boxed, Items};
+use wy_value::{Boxed, Items, Name};
 
 /// A type, with the byte offset where it stands in the source. What a pass makes has the place of
 /// the node for which it was made.

@@ -5,9 +5,9 @@ use Rattle.std.proofs.lemmas.Bool.Decides.{Decides-int_eq}
 use Rattle.std.proofs.lemmas.Int.{ints}
 use Rattle.wy_term_subst.proofs.wy_lemmas_proofs.Options.{some}
 use Rattle.wy_term_subst.specs.wy_value.Datum.{Datum, Null, Truth, Whole, Array, Record, Data, no_items, item}
-use Rattle.wy_term.specs.Term.{DataKind, null_kind, bool_kind, int_kind, array_kind, record_kind, Term, Parts, no_parts, part}
-use Rattle.wy_term.specs.Meaning.{Names, sense, senses_of, data_in}
-use Rattle.wy_term.specs.Data.{number_in, length_of, length_in, nth, item_at, element, with_nth, with_item_at, with_element, copies, repeated, items_with, is_of_kind, same_datum}
+use Rattle.wy_term_subst.specs.wy_term.Term.{DataKind, null_kind, bool_kind, int_kind, array_kind, record_kind, Term, Parts, no_parts, part}
+use Rattle.wy_term_subst.specs.wy_term.Meaning.{Names, sense, senses_of, data_in}
+use Rattle.wy_term_subst.specs.wy_term.Data.{number_in, length_of, length_in, nth, item_at, element, with_nth, with_item_at, with_element, copies, repeated, items_with, is_of_kind, same_datum}
 use Rattle.wy_facts.specs.Schema.{nth_of, element_numbered}
 
 -- ---- arrays

@@ -10,8 +10,8 @@ use Rattle.wy_term_subst.proofs.wy_lemmas_proofs.Choices.{and-left as first_true
 use Rattle.wy_term_subst.proofs.wy_lemmas_proofs.Lists.{bytes_self}
 use Rattle.wy_term_subst.specs.wy_value.Datum.{Datum, Null, Truth, Whole, Array, Record, Fields, no_fields}
 use Rattle.wy_term_subst.specs.wy_value.Datum as datum
-use Rattle.wy_term.specs.Term.{DataKind, null_kind, bool_kind, int_kind, array_kind, record_kind}
-use Rattle.wy_term.specs.Data.{field_of, field_in, with_field_of, with_field, is_of_kind, has_names}
+use Rattle.wy_term_subst.specs.wy_term.Term.{DataKind, null_kind, bool_kind, int_kind, array_kind, record_kind}
+use Rattle.wy_term_subst.specs.wy_term.Data.{field_of, field_in, with_field_of, with_field, is_of_kind, has_names}
 use Rattle.wy_facts.specs.Schema.{rise, has_name, has_field}
 
 -- ---- the field that was set

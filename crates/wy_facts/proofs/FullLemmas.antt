@@ -1,12 +1,12 @@
 -- Each instance has as many parts as its schema takes.
 use Rattle.std.proofs.Common.{◌≡◌, ℕ, suc, List, [], ◌∷◌, Bool, true, false, cond, eqb, length, Option, Some, None, refl, sym, ap, subst, ◌∙◌}
 use Rattle.wy_term_subst.proofs.wy_lemmas_proofs.Options.{some, some_same as some_is}
-use Rattle.wy_term.specs.Term.{Term, field}
-use Rattle.wy_term.specs.Term as term
-use Rattle.wy_term.specs.Nodes.{Plain}
-use Rattle.wy_term.specs.Same.{same_term}
-use Rattle.wy_term.specs.Rewriting.{as_number, as_bool}
-use Rattle.wy_term.specs.Folding.{folded}
+use Rattle.wy_term_subst.specs.wy_term.Term.{Term, field}
+use Rattle.wy_term_subst.specs.wy_term.Term as term
+use Rattle.wy_term_subst.specs.wy_term.Nodes.{Plain}
+use Rattle.wy_term_subst.specs.wy_term.Same.{same_term}
+use Rattle.wy_term_subst.specs.wy_term.Rewriting.{as_number, as_bool}
+use Rattle.wy_term_subst.specs.wy_term.Folding.{folded}
 use Rattle.wy_facts.specs.declared.schema.Schema.{Schema}
 use Rattle.wy_facts.specs.declared.schema.Schema.TheVariants as schema
 use Rattle.wy_facts.specs.declared.schema.Instance.{Instance as Made}

@@ -1,8 +1,8 @@
 -- Facts that need no condition.
 use Rattle.std.proofs.Common.{◌≡◌, ◌≢◌, ℕ, List, Bool, true, false, cond, eqb, Some, refl}
 use Rattle.std.proofs.lemmas.Bool.{eqb-true}
-use Rattle.wy_term.specs.Term.{Term}
-use Rattle.wy_term.specs.Condition.{Entry}
+use Rattle.wy_term_subst.specs.wy_term.Term.{Term}
+use Rattle.wy_term_subst.specs.wy_term.Condition.{Entry}
 use Rattle.wy_facts.specs.Schema.{fact_of}
 use Rattle.wy_facts.specs.Membership.{membership_of, fact_in}
 use Rattle.wy_facts.specs.Truth.{AlwaysHolds}

@@ -1,7 +1,7 @@
 -- A list of so many terms, and that a program makes of each such list what a schema states.
 use Rattle.std.proofs.Common.{◌≡◌, List, [], ◌∷◌, length, Some, Result, Ok, Err, IfOk, Vec, sym, subst, ◌∙◌, arith}
 use Rattle.std.specs.declared.alloc.Global.{Global}
-use Rattle.wy_term.specs.Term.{Term}
+use Rattle.wy_term_subst.specs.wy_term.Term.{Term}
 use Rattle.wy_facts.specs.declared.program.Instruction.{Instruction}
 use Rattle.wy_facts.specs.declared.schema.Schema.{Schema}
 use Rattle.wy_facts.specs.Schema.{stated}

@@ -5,8 +5,8 @@ use Rattle.std.proofs.lemmas.Nat.{mod_below}
 use Rattle.std.proofs.Math.Nat.{div-add-mod}
 use Rattle.std.proofs.Math.IntN.{*ℤ-zero, *ℤ_comm}
 use Rattle.wy_term_subst.proofs.wy_lemmas_proofs.Numbers.{positive, opposite, one_times, pos_times, distrib_left}
-use Rattle.wy_term.proofs.SharedLemmas.{unless_zero}
-use Rattle.wy_term.specs.Data.{quotient_down, remainder}
+use Rattle.wy_term_subst.proofs.wy_term_proofs.SharedLemmas.{unless_zero}
+use Rattle.wy_term_subst.specs.wy_term.Data.{quotient_down, remainder}
 
 -- the remainder of a division by b lies from 0 on below the size of b
 pub record Divides (a b : ℤ) : Type 0 where

@@ -6,11 +6,11 @@ use Rattle.std.proofs.lemmas.Slice.Eq.{bytes_eq-Decides}
 use Rattle.wy_term_subst.proofs.wy_lemmas_proofs.Choices.{not_false, not_true}
 use Rattle.wy_term_subst.specs.wy_value.Datum.{Datum, Null, Truth, Whole, Array, Record, Data, no_items, item, Fields, no_fields}
 use Rattle.wy_term_subst.specs.wy_value.Datum as datum
-use Rattle.wy_term.specs.Data.{same_datum, same_data, same_fields, length_in, number_in, is_of_kind, element}
-use Rattle.wy_term.specs.Term.{DataKind, Term, Of, no_parts, part, one, two, at_most, equal, of_kind, denied, all_of, any_of, len, num, get}
-use Rattle.wy_term.specs.Meaning.{Names, sense}
-use Rattle.wy_term.specs.Meaning as meaning
-use Rattle.wy_term.proofs.FoldingLemmas.{folding_keeps_meaning}
+use Rattle.wy_term_subst.specs.wy_term.Data.{same_datum, same_data, same_fields, length_in, number_in, is_of_kind, element}
+use Rattle.wy_term_subst.specs.wy_term.Term.{DataKind, Term, Of, no_parts, part, one, two, at_most, equal, of_kind, denied, all_of, any_of, len, num, get}
+use Rattle.wy_term_subst.specs.wy_term.Meaning.{Names, sense}
+use Rattle.wy_term_subst.specs.wy_term.Meaning as meaning
+use Rattle.wy_term_subst.proofs.wy_term_proofs.FoldingLemmas.{folding_keeps_meaning}
 use Rattle.wy_facts.specs.Made.{made_one, made_two, is_at_most, is_equal, denial, is_below, both, all_three, all_four, either, one_of_three, implies, same_number}
 use Rattle.wy_facts.specs.Schema.{length_of, number_in as number_term}
 

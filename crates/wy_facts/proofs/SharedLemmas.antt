@@ -4,11 +4,11 @@ use Rattle.wy_facts.specs.Membership.{AreTypesBelow}
 use Rattle.wy_facts.specs.Seen.{Stays}
 use Rattle.wy_term_subst.proofs.wy_lemmas_proofs.Lists.{first_of, rest_of}
 use Rattle.wy_term_subst.proofs.wy_lemmas_proofs.Numbers.{EntryBelow}
-use Rattle.wy_term.proofs.SharedLemmas.{entry_with}
-use Rattle.wy_term.specs.Condition.{Entry, entry_of, condition_of}
-use Rattle.wy_term.specs.Nodes.{Plain, tree_at}
-use Rattle.wy_term.specs.Term.{Term}
-use Rattle.wy_term.specs.declared.cond.Cond.{Cond}
+use Rattle.wy_term_subst.proofs.wy_term_proofs.SharedLemmas.{entry_with}
+use Rattle.wy_term_subst.specs.wy_term.Condition.{Entry, entry_of, condition_of}
+use Rattle.wy_term_subst.specs.wy_term.Nodes.{Plain, tree_at}
+use Rattle.wy_term_subst.specs.wy_term.Term.{Term}
+use Rattle.wy_term_subst.specs.wy_term.declared.cond.Cond.{Cond}
 
 pub entries_stay : (old new : List Plain) (es : List (ℕ × ℕ × ℕ)) → Stays old new → All (EntryBelow (length old)) es → map (entry_of new) es ≡ map (entry_of old) es
 entries_stay old new [] stays all = refl

@@ -3,8 +3,8 @@ use Rattle.std.proofs.Common.{◌≡◌, ◌<◌, ◌≤◌, ◌+◌, ◌-◌, �
 use Rattle.std.proofs.lemmas.Int.{ints}
 use Rattle.std.proofs.lemmas.List.{drop_more}
 use Rattle.wy_term_subst.proofs.wy_lemmas_proofs.Lists.{first_of, rest_of}
-use Rattle.wy_term.specs.Term.{Symbol, Term}
-use Rattle.wy_term.specs.Nodes.{Plain, of, tree_at, parts_at, HasPartsBelow}
+use Rattle.wy_term_subst.specs.wy_term.Term.{Symbol, Term}
+use Rattle.wy_term_subst.specs.wy_term.Nodes.{Plain, of, tree_at, parts_at, HasPartsBelow}
 use Rattle.wy_facts.specs.declared.program.Instruction.{Instruction}
 use Rattle.wy_facts.specs.Program.{after, ran}
 use Rattle.wy_facts.specs.Schema.{◌>>=◌, rise, nth_of, element_numbered}

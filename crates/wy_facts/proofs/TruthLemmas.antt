@@ -6,15 +6,15 @@ use Rattle.std.proofs.lemmas.Slice.Eq.{bytes_eq-Decides}
 use Rattle.wy_term_subst.proofs.wy_lemmas_proofs.Choices.{true_false as not_both}
 use Rattle.wy_term_subst.proofs.wy_lemmas_proofs.Options.{some, some_same as some_is}
 use Rattle.wy_term_subst.specs.wy_value.Datum.{Datum, Truth, Whole, Array}
-use Rattle.wy_term.specs.Data.{quotient, remainder, length_in, element, with_element, repeated, field_in, with_field, items_with, is_of_kind, same_datum}
-use Rattle.wy_term.specs.Term.{DataKind, null_kind, bool_kind, int_kind, Term, Of, Parts, no_parts, part, leaf, one, two, Number}
-use Rattle.wy_term.specs.Term as term
-use Rattle.wy_term.specs.Same.{same_term}
-use Rattle.wy_term.specs.Rewriting.{as_number, as_array, as_bool}
-use Rattle.wy_term.specs.Meaning.{Names, senses_of, data_in}
-use Rattle.wy_term.specs.Folding.{folded}
-use Rattle.wy_term.proofs.SameLemmas.{terms_are}
-use Rattle.wy_term.proofs.FoldingLemmas.{folding_keeps_meaning}
+use Rattle.wy_term_subst.specs.wy_term.Data.{quotient, remainder, length_in, element, with_element, repeated, field_in, with_field, items_with, is_of_kind, same_datum}
+use Rattle.wy_term_subst.specs.wy_term.Term.{DataKind, null_kind, bool_kind, int_kind, Term, Of, Parts, no_parts, part, leaf, one, two, Number}
+use Rattle.wy_term_subst.specs.wy_term.Term as term
+use Rattle.wy_term_subst.specs.wy_term.Same.{same_term}
+use Rattle.wy_term_subst.specs.wy_term.Rewriting.{as_number, as_array, as_bool}
+use Rattle.wy_term_subst.specs.wy_term.Meaning.{Names, senses_of, data_in}
+use Rattle.wy_term_subst.specs.wy_term.Folding.{folded}
+use Rattle.wy_term_subst.proofs.wy_term_proofs.SameLemmas.{terms_are}
+use Rattle.wy_term_subst.proofs.wy_term_proofs.FoldingLemmas.{folding_keeps_meaning}
 use Rattle.wy_facts.specs.declared.schema.Schema.{Schema}
 use Rattle.wy_facts.specs.declared.schema.Schema.TheVariants as schema
 use Rattle.wy_facts.specs.Made.{made_one, made_two, is_at_most, is_equal, denial, is_below, both, all_four, either, implies, same_number}

@@ -1,6 +1,6 @@
 -- Terms and formulas as they are made: folded, from their parts up.
-use Rattle.wy_term.specs.Term.{Symbol, Term, Of, no_parts, part, one, two, at_most, equal, denied, all_of, any_of}
-use Rattle.wy_term.specs.Folding.{folded}
+use Rattle.wy_term_subst.specs.wy_term.Term.{Symbol, Term, Of, no_parts, part, one, two, at_most, equal, denied, all_of, any_of}
+use Rattle.wy_term_subst.specs.wy_term.Folding.{folded}
 
 -- a term of one part
 abbrev pub made_one : Symbol → Term → Term

@@ -1,8 +1,8 @@
 -- Which formula the schema on named types states: a datum is of a named type exactly where the type's formula holds of it.
 use Rattle.std.specs.Prelude.{ℕ, ◌<◌, ◌==◌, List, [], ◌∷◌, All, Option, Some, None, if◌then◌else◌}
-use Rattle.wy_term.specs.declared.cond.Cond.{Cond}
-use Rattle.wy_term.specs.Term.{Term, Of, no_parts, part, in_type}
-use Rattle.wy_term.specs.Condition.{Entry}
+use Rattle.wy_term_subst.specs.wy_term.declared.cond.Cond.{Cond}
+use Rattle.wy_term_subst.specs.wy_term.Term.{Term, Of, no_parts, part, in_type}
+use Rattle.wy_term_subst.specs.wy_term.Condition.{Entry}
 use Rattle.wy_term_subst.specs.Substitution.{substituted}
 use Rattle.wy_facts.specs.Made.{exactly_where}
 use Rattle.wy_facts.specs.Schema.{◌>>=◌, fact_of}

@@ -1,7 +1,7 @@
 -- How a formula is made of the parts of an instance, by a list of instructions that is read from its end.
 use Rattle.std.specs.Prelude.{◌≡◌, ℕ, List, [], ◌∷◌, Bool, true, false, pos, Option, Some, None, length, slice_get}
-use Rattle.wy_term.specs.Term.{Symbol, Term, Of, no_parts, part, leaf, Number, one, two, add, neg, mul, num, len, get, null, truth, int, bool_kind, int_kind, null_kind, at_most, equal, of_kind, denied, all_of, any_of}
-use Rattle.wy_term.specs.Folding.{folded}
+use Rattle.wy_term_subst.specs.wy_term.Term.{Symbol, Term, Of, no_parts, part, leaf, Number, one, two, add, neg, mul, num, len, get, null, truth, int, bool_kind, int_kind, null_kind, at_most, equal, of_kind, denied, all_of, any_of}
+use Rattle.wy_term_subst.specs.wy_term.Folding.{folded}
 use Rattle.wy_facts.specs.declared.program.Leaf.{Leaf}
 use Rattle.wy_facts.specs.declared.program.Leaf.TheVariants as leaves
 use Rattle.wy_facts.specs.declared.program.Unary.{Unary}

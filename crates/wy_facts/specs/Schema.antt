@@ -2,11 +2,11 @@
 use Rattle.std.specs.Prelude.{ℕ, zero, suc, List, [], ◌∷◌, ◌&&◌, ◌==◌, Bool, true, false, not, bytes_eq, if◌then◌else◌, ℤ, pos, negsuc, Option, Some, None}
 use Rattle.std.specs.Ordering.{is_lt, nat_cmp}
 use Rattle.std.specs.Cmp.Lexicographic.{slice_cmp}
-use Rattle.wy_term.specs.Term.{DataKind, null_kind, bool_kind, int_kind, record_kind, Term, Of, Parts, no_parts, part, leaf, one, Number, add, neg, mul, div, rem, num, len, null, truth, int, repeat, update, get, field, set_field, equal, of_kind}
-use Rattle.wy_term.specs.Same.{same_term}
-use Rattle.wy_term.specs.Sorts.{Sort, int_sort, val_sort, formula_sort, sort_in}
-use Rattle.wy_term.specs.Rewriting.{as_number, as_array, as_bool}
-use Rattle.wy_term.specs.Folding.{folded}
+use Rattle.wy_term_subst.specs.wy_term.Term.{DataKind, null_kind, bool_kind, int_kind, record_kind, Term, Of, Parts, no_parts, part, leaf, one, Number, add, neg, mul, div, rem, num, len, null, truth, int, repeat, update, get, field, set_field, equal, of_kind}
+use Rattle.wy_term_subst.specs.wy_term.Same.{same_term}
+use Rattle.wy_term_subst.specs.wy_term.Sorts.{Sort, int_sort, val_sort, formula_sort, sort_in}
+use Rattle.wy_term_subst.specs.wy_term.Rewriting.{as_number, as_array, as_bool}
+use Rattle.wy_term_subst.specs.wy_term.Folding.{folded}
 use Rattle.wy_facts.specs.declared.schema.Schema.{Schema}
 use Rattle.wy_facts.specs.declared.schema.Schema.TheVariants as schema
 use Rattle.wy_facts.specs.Made.{made_one, made_two, is_at_most, is_equal, denial, is_below, both, all_three, all_four, either, one_of_three, implies, exactly_where, same_number}

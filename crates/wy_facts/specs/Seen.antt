@@ -1,7 +1,7 @@
 -- What the code's instances and answers stand for, where `at` gives the term of a number.
 use Rattle.std.specs.Prelude.{◌≡◌, ◌<◌, ◌≤◌, ℕ, List, map, All, length}
-use Rattle.wy_term.specs.Term.{Term}
-use Rattle.wy_term.specs.Nodes.{Plain, tree_at}
+use Rattle.wy_term_subst.specs.wy_term.Term.{Term}
+use Rattle.wy_term_subst.specs.wy_term.Nodes.{Plain, tree_at}
 use Rattle.wy_facts.specs.declared.schema.Instance.{Instance}
 use Rattle.wy_facts.specs.Schema as schema
 

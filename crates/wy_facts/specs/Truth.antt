@@ -1,7 +1,7 @@
 -- That facts are true.
 use Rattle.std.specs.Prelude.{◌≡◌, ℕ, List, true, Some}
-use Rattle.wy_term.specs.Term.{Term}
-use Rattle.wy_term.specs.Meaning.{Names, sense}
+use Rattle.wy_term_subst.specs.wy_term.Term.{Term}
+use Rattle.wy_term_subst.specs.wy_term.Meaning.{Names, sense}
 use Rattle.wy_facts.specs.Schema.{fact_of}
 
 -- a formula holds, whatever its names stand for

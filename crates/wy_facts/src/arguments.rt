@@ -1,12 +1,12 @@
 //! Whether terms are such as a schema takes, and which parts they have.
 ghost use Rattle.std.specs.Prelude.{◌≡◌, ◌<◌, length, option_map, Some, IfOk, IfSome};
-ghost use Rattle.wy_term.specs.Nodes.{parts_at, tree_at};
-ghost use Rattle.wy_term.specs.Rewriting.{as_number};
+ghost use Rattle.wy_term_subst.specs.wy_term.Nodes.{parts_at, tree_at};
+ghost use Rattle.wy_term_subst.specs.wy_term.Rewriting.{as_number};
 ghost use Rattle.wy_facts.specs.Schema.{is_val, length_is_natural, length_of_copies, length_of_updated, element_of_array, element_of_copies, element_updated, element_elsewhere, elements_at_one_index, field_updated, equal_numbers, datum_by_kind, as_updated, as_element, as_copies, element_numbered, numbered_in, set_to};
 ghost use Rattle.wy_facts.specs.Seen.{seen_instance, terms_at, AreBelow};
 
 use crate::schema::{Instance, Schema};
-use wy_term::{NoMemory, Node, Terms};
+use wy_term_subst::{NoMemory, Node, Terms};
 
 /// A schema, stated of these parts.
 pub fn of_parts(terms: &Terms, schema: Schema, parts: &[u32]) -> Result<Option<Instance>, NoMemory>

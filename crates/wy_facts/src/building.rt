@@ -1,16 +1,16 @@
 //! A formula, made of the parts of an instance by a list of instructions.
 ghost use Rattle.std.specs.Prelude.{◌≡◌, ◌<◌, ◌-◌, ◌∷◌, [], ℕ, length, option_map, slice_index_or, IfOk, IfSome};
-ghost use Rattle.wy_term.specs.Term.{Term, all_of};
+ghost use Rattle.wy_term_subst.specs.wy_term.Term.{Term, all_of};
 ghost use Rattle.wy_facts.specs.declared.program.Instruction.TheVariants.{Part};
-ghost use Rattle.wy_term.specs.Folding.{folded};
-ghost use Rattle.wy_term.specs.Nodes.{of, plain, grown, tree_at, HasPartsBelow};
+ghost use Rattle.wy_term_subst.specs.wy_term.Folding.{folded};
+ghost use Rattle.wy_term_subst.specs.wy_term.Nodes.{of, plain, grown, tree_at, HasPartsBelow};
 ghost use Rattle.wy_facts.specs.Program.{term_of_leaf, symbol_of_one, symbol_of_two, with_one, with_two, with_three, with_four, connective, after, ran};
 ghost use Rattle.wy_facts.specs.Seen.{terms_at, AreBelow, Stays};
 
 use crate::program::{Binary, Instruction, Leaf, Unary};
 use std::alloc::{AllocError, Global};
 use std::collections::VecDeque;
-use wy_term::{Kind, NoMemory, Node, Terms};
+use wy_term_subst::{Kind, NoMemory, Node, Terms};
 
 fn leaf_node(leaf: Leaf) -> Node
     ensures tree { (at : ℕ → Term) → folded (grown at (plain result)) ≡ term_of_leaf leaf }

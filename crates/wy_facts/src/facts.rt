@@ -1,8 +1,8 @@
 //! Facts: what a schema states of its arguments.
 ghost use Rattle.std.specs.Prelude.{◌≡◌, ◌≢◌, ◌<◌, ◌≤◌, ◌∷◌, [], ℕ, length, option_map, IfOk, IfSome, IfNone, OnErr};
-ghost use Rattle.wy_term.specs.Folding.{folded};
-ghost use Rattle.wy_term.specs.Nodes.{plain, grown, tree_at, HasPartsBelow};
-ghost use Rattle.wy_term.specs.Condition.{condition_of};
+ghost use Rattle.wy_term_subst.specs.wy_term.Folding.{folded};
+ghost use Rattle.wy_term_subst.specs.wy_term.Nodes.{plain, grown, tree_at, HasPartsBelow};
+ghost use Rattle.wy_term_subst.specs.wy_term.Condition.{condition_of};
 ghost use Rattle.wy_facts.specs.Schema.{◌>>=◌ as bind, instance, by_one, by_two, plain_by_one, instance_of, fact_of, division};
 ghost use Rattle.wy_facts.specs.Membership.{membership_of, fact_in, AreTypesBelow};
 ghost use Rattle.wy_facts.specs.Truth.{AlwaysHolds};
@@ -17,7 +17,7 @@ use crate::membership::membership;
 use crate::schema::{Instance, Schema};
 use crate::shapes::{division_at, field_before, kind_before_set, kind_before_update};
 use crate::stating::stated_of;
-use wy_term::{Cond, NoMemory, Node, Terms};
+use wy_term_subst::{Cond, NoMemory, Node, Terms};
 
 // A schema, stated of a term and of the term of a node that is made, where there is one.
 fn with_made(

@@ -18,3 +18,6 @@ mod stating;
 
 pub use facts::fact;
 pub use law::facts_are_true;
+pub use wy_term_subst::{
+    Taken, made_of, new_number, none_taken, parts_of, subst, take_numbers, with_parts,
+};

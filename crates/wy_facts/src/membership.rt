@@ -1,15 +1,14 @@
 //! What is stated of tests of named types.
 ghost use Rattle.std.specs.Prelude.{◌≡◌, ◌<◌, ◌∷◌, [], ℕ, List, All, length, map, option_map, IfOk, IfSome};
-ghost use Rattle.wy_term.specs.Condition.{entry_of, condition_of};
-ghost use Rattle.wy_term.specs.Nodes.{Plain, tree_at};
+ghost use Rattle.wy_term_subst.specs.wy_term.Condition.{entry_of, condition_of};
+ghost use Rattle.wy_term_subst.specs.wy_term.Nodes.{Plain, tree_at};
 ghost use Rattle.wy_facts.specs.Made.{exactly_where};
 ghost use Rattle.wy_facts.specs.Membership.{as_membership, entry_for, unfolded, membership, AreTypesBelow};
 ghost use Rattle.wy_facts.specs.Seen.{Stays};
 
 use crate::schema::{Instance, Schema};
 use crate::stating::stated_of;
-use wy_term::{Cond, NoMemory, Node, Terms};
-use wy_term_subst::subst;
+use wy_term_subst::{Cond, NoMemory, Node, Terms, subst};
 
 // The datum and the type's number of a test of a named type.
 fn membership_at(terms: &Terms, t: u32) -> Option<(u32, u32)>

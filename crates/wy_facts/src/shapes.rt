@@ -1,11 +1,10 @@
 //! Terms that are made for a schema: what a record or an array was before a change.
 ghost use Rattle.std.specs.Prelude.{◌≡◌, ◌<◌, length, map, option_map, IfOk, IfSome};
-ghost use Rattle.wy_term.specs.Nodes.{plain, plain_kind, grown, tree_at, HasPartsBelow};
+ghost use Rattle.wy_term_subst.specs.wy_term.Nodes.{plain, plain_kind, grown, tree_at, HasPartsBelow};
 ghost use Rattle.wy_facts.specs.Schema.{rise, has_name, has_field, field_before, kind_before_update, kind_before_set, as_division};
 
 use std::alloc::{AllocError, Global};
-use wy_data::Name;
-use wy_term::{Kind, NoMemory, Node, Terms};
+use wy_term_subst::{Kind, Name, NoMemory, Node, Terms};
 
 fn copied_names(alloc: Global, names: &[Name]) -> Result<Vec<Name>, AllocError>
     ensures { IfOk result (λ ns. ns.items ≡ names.now) }

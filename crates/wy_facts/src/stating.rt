@@ -1,7 +1,7 @@
 //! The formula that a schema states of its parts.
 ghost use Rattle.std.specs.Prelude.{◌≡◌, ◌<◌, ◌∷◌, [], length, IfOk};
-ghost use Rattle.wy_term.specs.Term.{Term};
-ghost use Rattle.wy_term.specs.Nodes.{tree_at};
+ghost use Rattle.wy_term_subst.specs.wy_term.Term.{Term};
+ghost use Rattle.wy_term_subst.specs.wy_term.Nodes.{tree_at};
 ghost use Rattle.wy_facts.specs.Schema.{stated};
 ghost use Rattle.wy_facts.specs.Program.{arity};
 ghost use Rattle.wy_facts.specs.Seen.{terms_at, AreBelow, Stays};
@@ -10,7 +10,7 @@ use crate::building::made_of;
 use crate::program::program;
 use crate::schema::Instance;
 use std::collections::VecDeque;
-use wy_term::{NoMemory, Terms};
+use wy_term_subst::{NoMemory, Terms};
 
 // The term that was made last.
 #[tactic(auto, using(crate::proofs::StepLemmas::front_is))]

@@ -17,4 +17,4 @@ mod work;
 pub use combination::combine;
 pub use forms::{form, term_form};
 pub use linear::Form;
-pub use wy_term::NoMemory;
+pub use wy_term::{Cond, Kind, NoMemory, Node, Quantifier, Terms};

@@ -7,7 +7,7 @@ use Rattle.wy_term.specs.Nodes.{Plain, tree_at}
 use Rattle.wy_facts.specs.Membership.{AreTypesBelow}
 use Rattle.wy_facts.specs.Seen.{Stays}
 use Rattle.wy_facts.proofs.StepLemmas.{terms_kept}
-use Rattle.wy_search.proofs.AddingLemmas.{types_stay}
+use Rattle.wy_prove_rounds.proofs.wy_search_proofs.AddingLemmas.{types_stay}
 
 abbrev made : List Term → Term → List Entry → Condition
 made hyps goal types = record { hyps = hyps; goal = goal; types = types }

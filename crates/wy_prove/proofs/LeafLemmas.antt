@@ -16,8 +16,8 @@ use Rattle.wy_prove_leaves.proofs.wy_search_laws_proofs.closing_lemmas.AtLeastLe
 use Rattle.wy_prove_leaves.proofs.wy_search_laws_proofs.chains_lemmas.ClassLemmas.{present_sorted}
 use Rattle.wy_prove_leaves.proofs.wy_search_laws_proofs.certified_lemmas.LeafLemmas.{sorted_literals, folded_literals}
 use Rattle.wy_prove_leaves.specs.wy_search_laws.rounds.Leaves.{IsLeaf}
-use Rattle.wy_prove_drafts.specs.Progress.{Progress, Closes, Goes}
-use Rattle.wy_prove_drafts.proofs.ProgressLemmas.{closes_ends, ends_behind, goes_more, goes_nowhere, goes_on}
+use Rattle.wy_prove_rounds.specs.wy_prove_drafts.Progress.{Progress, Closes, Goes}
+use Rattle.wy_prove_rounds.proofs.wy_prove_drafts_proofs.ProgressLemmas.{closes_ends, ends_behind, goes_more, goes_nowhere, goes_on}
 use Rattle.wy_prove_leaves.specs.linked.Linked.{IsBase}
 use Rattle.wy_prove_leaves.specs.stated_sums.Refuted.{EndsIfRefuted}
 use Rattle.wy_prove_rounds.proofs.NodeLemmas.{sorted_node}

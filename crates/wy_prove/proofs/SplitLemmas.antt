@@ -16,7 +16,7 @@ use Rattle.wy_prove_leaves.proofs.wy_search_laws_proofs.closing_lemmas.FoldedLem
 use Rattle.wy_prove_leaves.proofs.wy_search_laws_proofs.closing_lemmas.NameLemmas.{near_self, near_added, near_denied, splits_near}
 use Rattle.wy_prove_leaves.specs.wy_search_laws.rounds.Leaves.{IsSortedThroughout, IsFoldedThroughout, begins, left, right}
 use Rattle.wy_prove_leaves.proofs.wy_search_laws_proofs.rounds_lemmas.SearchLemmas.{IsFit, sorted_atoms, folded_atoms, folded_formulas, formulas_folded, next_fit}
-use Rattle.wy_prove_drafts.specs.Progress.{Progress}
+use Rattle.wy_prove_rounds.specs.wy_prove_drafts.Progress.{Progress}
 use Rattle.wy_prove_rounds.proofs.NodeLemmas.{folded_node, sorted_node}
 use Rattle.wy_prove_rounds.specs.Rounds.{IsBeside}
 use Rattle.wy_prove.specs.Tracks.{Pair, spots_of, nodes_of, IsFoundFreely, IsLeft}

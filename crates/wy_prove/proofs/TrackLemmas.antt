@@ -14,7 +14,7 @@ use Rattle.wy_prove_leaves.specs.wy_search_spec.Splitting.{next_atom}
 use Rattle.wy_prove_leaves.specs.wy_search_spec.Expansion.{Spot}
 use Rattle.wy_prove_leaves.specs.wy_search_spec.Tree.{Next, Why, closed, stays_open, goes_on, on_atom, by_ending, next, Verdict, found, spent, follows, searched}
 use Rattle.wy_prove_writable.specs.wy_check_laws.sound.Sortedness.{AreSortedSteps}
-use Rattle.wy_prove_drafts.specs.Progress.{Progress, Leads, Goes, Ends}
+use Rattle.wy_prove_rounds.specs.wy_prove_drafts.Progress.{Progress, Leads, Goes, Ends}
 use Rattle.wy_prove_leaves.specs.wy_search_laws.closing.AtLeast.{IsNear}
 use Rattle.wy_prove_leaves.specs.wy_search_laws.rounds.Leaves.{IsLeaf, IsSortedThroughout, expands}
 use Rattle.wy_prove_rounds.specs.Rounds.{IsBeside}

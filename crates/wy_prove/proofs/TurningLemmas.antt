@@ -6,7 +6,7 @@ use Rattle.wy_check_nodes.specs.declared.branch.Branch.{Branch}
 use Rattle.wy_check_nodes.specs.Seen.{seen_branch}
 use Rattle.wy_prove_leaves.specs.wy_search_spec.Bounds.{Ending, refuted, consistent, crowded, wide}
 use Rattle.wy_prove_leaves.specs.wy_search_spec.Tree as tree
-use Rattle.wy_search.proofs.TurnLemmas.{more_by_keys}
+use Rattle.wy_prove_rounds.proofs.wy_search_proofs.TurnLemmas.{more_by_keys}
 use Rattle.wy_prove.specs.Turns.{is_refutation}
 
 pub refutation_is : (e : Ending) → is_refutation e ≡ true → e ≡ refuted

@@ -1,6 +1,6 @@
 -- The walk's nodes stand for the same as the list of terms grows, and what is left behind each turn.
 use Rattle.std.proofs.Common.{◌≡◌, ◌∙◌, ◌<◌, ◌+◌, ℕ, List, [], ◌∷◌, ◌++◌, map, Bool, true, false, Some, None, refl, sym, ap, subst, arith}
-use Rattle.wy_prove_drafts.proofs.DraftLemmas.{progress}
+use Rattle.wy_prove_rounds.proofs.wy_prove_drafts_proofs.DraftLemmas.{progress}
 use Rattle.wy_facts.specs.Schema.{only_if}
 use Rattle.wy_term.specs.Term.{Term}
 use Rattle.wy_term.specs.Condition.{Entry, Condition}
@@ -16,13 +16,13 @@ use Rattle.wy_prove_leaves.specs.wy_search_spec.Bounds.{ending}
 use Rattle.wy_prove_leaves.specs.wy_search_spec.Expansion as search
 use Rattle.wy_prove_leaves.specs.wy_search_spec.Tree as tree
 use Rattle.wy_prove_leaves.specs.wy_search_spec.Splitting.{next_atom}
-use Rattle.wy_search.specs.StatedSeen.{seen_spot}
-use Rattle.wy_search.specs.Turns.{with_side}
-use Rattle.wy_search.proofs.SpotLemmas.{spot_stays, seen_stays}
+use Rattle.wy_prove_rounds.specs.wy_search.StatedSeen.{seen_spot}
+use Rattle.wy_prove_rounds.specs.wy_search.Turns.{with_side}
+use Rattle.wy_prove_rounds.proofs.wy_search_proofs.SpotLemmas.{spot_stays, seen_stays}
 use Rattle.wy_prove_leaves.proofs.wy_search_laws_proofs.closing_lemmas.AtLeastLemmas.{shuts_more}
 use Rattle.wy_prove_leaves.specs.wy_search_laws.rounds.Leaves.{IsLeaf}
-use Rattle.wy_prove_drafts.specs.Progress.{Progress, Closes, Goes, Ends, Splits}
-use Rattle.wy_prove_drafts.proofs.ProgressLemmas.{closes_ends}
+use Rattle.wy_prove_rounds.specs.wy_prove_drafts.Progress.{Progress, Closes, Goes, Ends, Splits}
+use Rattle.wy_prove_rounds.proofs.wy_prove_drafts_proofs.ProgressLemmas.{closes_ends}
 use Rattle.wy_prove_rounds.specs.Rounds.{IsBeside}
 use Rattle.wy_prove.specs.declared.walking.Waiting.{Waiting}
 use Rattle.wy_prove.specs.Plans.{IsEnded}

@@ -6,10 +6,10 @@ pub mod Plans
 pub mod Turns
 pub mod Walks
 -- what crates above need too of the search
-pub use Rattle.wy_search.specs.Seen
-pub use Rattle.wy_search.specs.Carried
-pub use Rattle.wy_search.specs.declared.verdict.OpenLeaf
-pub use Rattle.wy_search.specs.declared.verdict.Verdict as Searched
+pub use Rattle.wy_prove_rounds.specs.wy_search.Seen
+pub use Rattle.wy_prove_rounds.specs.wy_search.Carried
+pub use Rattle.wy_prove_rounds.specs.wy_search.declared.verdict.OpenLeaf
+pub use Rattle.wy_prove_rounds.specs.wy_search.declared.verdict.Verdict as Searched
 -- passed on to the crates above
 pub use Rattle.wy_cert.specs as wy_cert
 pub use Rattle.wy_check.specs as wy_check

@@ -4,7 +4,7 @@ use Rattle.std.specs.List.{list_any}
 use Rattle.wy_term.specs.Condition.{Entry}
 use Rattle.wy_term.specs.Nodes.{Plain, tree_at}
 use Rattle.wy_term_subst.specs.sorted.Sorted.{IsSorted}
-use Rattle.wy_prove_drafts.specs.Progress.{Progress, Goes, Ends}
+use Rattle.wy_prove_rounds.specs.wy_prove_drafts.Progress.{Progress, Goes, Ends}
 
 -- these numbers are those of terms of sorted parts
 abbrev pub AreSortedAt : List Plain → List ℕ → Type 0

@@ -12,11 +12,11 @@ use Rattle.wy_prove_leaves.specs.wy_search_spec.Bounds.{Ending, refuted, consist
 use Rattle.wy_prove_leaves.specs.wy_search_spec.Splitting.{next_atom}
 use Rattle.wy_prove_leaves.specs.wy_search_spec.Expansion as search
 use Rattle.wy_prove_leaves.specs.wy_search_spec.Tree as tree
-use Rattle.wy_search.specs.StatedSeen.{seen_spot, IsSpot}
-use Rattle.wy_search.specs.Spot.{Spot}
-use Rattle.wy_search.specs.Turns.{with_side}
+use Rattle.wy_prove_rounds.specs.wy_search.StatedSeen.{seen_spot, IsSpot}
+use Rattle.wy_prove_rounds.specs.wy_search.Spot.{Spot}
+use Rattle.wy_prove_rounds.specs.wy_search.Turns.{with_side}
 use Rattle.wy_prove_leaves.specs.wy_search_laws.rounds.Leaves.{IsLeaf}
-use Rattle.wy_prove_drafts.specs.Progress.{Progress, Goes}
+use Rattle.wy_prove_rounds.specs.wy_prove_drafts.Progress.{Progress, Goes}
 use Rattle.wy_prove_rounds.specs.Rounds.{IsBeside}
 use Rattle.wy_prove.specs.declared.turning.Plan.{Plan}
 use Rattle.wy_prove.specs.declared.turning.Leaf.{Leaf}

@@ -8,10 +8,10 @@ use Rattle.wy_cert.specs.declared.step.Cert.{Cert}
 use Rattle.wy_cert.specs.Steps.{steps_of, NamesItsTerms}
 use Rattle.wy_prove_rounds.specs.wy_check_spec.valid.Validity.{IsValid}
 use Rattle.wy_prove_leaves.specs.wy_search_spec.Expansion as search
-use Rattle.wy_search.specs.StatedSeen.{seen_spot, IsSpot}
+use Rattle.wy_prove_rounds.specs.wy_search.StatedSeen.{seen_spot, IsSpot}
 use Rattle.wy_prove_writable.specs.wy_check_laws.sound.Sortedness.{AreSortedSteps}
-use Rattle.wy_prove_drafts.specs.Progress.{Progress}
-use Rattle.wy_prove_drafts.specs.Draft.{IsDraft, seen_draft}
+use Rattle.wy_prove_rounds.specs.wy_prove_drafts.Progress.{Progress}
+use Rattle.wy_prove_rounds.specs.wy_prove_drafts.Draft.{IsDraft, seen_draft}
 use Rattle.wy_prove.specs.Tracks.{Pair, IsLeft}
 use Rattle.wy_prove.specs.declared.walking.Waiting.{Waiting}
 use Rattle.wy_prove.specs.declared.walking.Walk.{Walk}

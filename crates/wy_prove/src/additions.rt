@@ -1,12 +1,12 @@
 //! The steps of a plan that adds to a node, written to a draft.
 ghost use Rattle.std.specs.Prelude.{◌<◌, IsTrue, OnOk, length};
-ghost use Rattle.wy_prove_drafts.specs.Draft.{IsDraft};
+ghost use Rattle.wy_prove_rounds.specs.wy_prove_drafts.Draft.{IsDraft};
 ghost use Rattle.wy_facts.specs.Membership.{AreTypesBelow};
 ghost use Rattle.wy_facts.specs.Seen.{AreBelow, Stays};
 
 use crate::numbers::number_of;
-use wy_prove_drafts::{Draft, write_fact, write_instance, write_product, write_witness};
 use wy_prove_explaining::{Action, Named};
+use wy_prove_rounds::{Draft, write_fact, write_instance, write_product, write_witness};
 use wy_term::{Cond, NoMemory, Terms};
 
 // Whether these are numbers of terms.

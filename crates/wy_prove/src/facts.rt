@@ -9,7 +9,7 @@ use std::collections::HashSet;
 use wy_check_nodes::{Branch, pending_at};
 use wy_facts::fact;
 use wy_prove_explaining::Action;
-use wy_search::{is_element, measured, read_count, standing, written_count};
+use wy_prove_rounds::{is_element, measured, read_count, standing, written_count};
 use wy_term::{Cond, Kind, NoMemory, Node, Terms};
 
 // ---- what the round added

@@ -1,9 +1,9 @@
 //! Half a round of expansion, with its steps.
 ghost use Rattle.std.specs.Prelude.{◌<◌, IfOk, IfSome, OnOk, length};
-ghost use Rattle.wy_prove_drafts.specs.Draft.{IsDraft};
+ghost use Rattle.wy_prove_rounds.specs.wy_prove_drafts.Draft.{IsDraft};
 ghost use Rattle.wy_facts.specs.Membership.{AreTypesBelow};
 ghost use Rattle.wy_facts.specs.Seen.{AreBelow, Stays};
-ghost use Rattle.wy_search.specs.StatedSeen.{IsSpot};
+ghost use Rattle.wy_prove_rounds.specs.wy_search.StatedSeen.{IsSpot};
 ghost use Rattle.wy_check_nodes.specs.Seen.{IsBranch};
 
 use crate::additions::make_additions;
@@ -12,10 +12,9 @@ use crate::facts::push_facts;
 use crate::products::push_products;
 use wy_check_nodes::{Branch, add_all, has_literal, nth_literal};
 use wy_check_splits::{of_each, of_one};
-use wy_prove_drafts::Draft;
 use wy_prove_explaining::{Action, Named};
-use wy_search::{
-    Spot, facts_of, index_terms, no_forms, products_of, with_instances, with_witnesses,
+use wy_prove_rounds::{
+    Draft, Spot, facts_of, index_terms, no_forms, products_of, with_instances, with_witnesses,
 };
 use wy_term::{Cond, NoMemory, Terms};
 

@@ -27,4 +27,4 @@ mod turning;
 mod walking;
 
 pub use judgement::certified;
-pub use wy_search::{Carried, OpenLeaf, Verdict, Why, nothing_carried, search};
+pub use wy_prove_rounds::{Carried, OpenLeaf, Verdict, Why, nothing_carried, search};

@@ -1,9 +1,9 @@
 //! The numbers of the literals that a plan names.
-ghost use Rattle.wy_prove_drafts.specs.Draft.{IsDraft};
+ghost use Rattle.wy_prove_rounds.specs.wy_prove_drafts.Draft.{IsDraft};
 
 use wy_items::at;
-use wy_prove_drafts::{Draft, literal_number};
 use wy_prove_explaining::Named;
+use wy_prove_rounds::{Draft, literal_number};
 use wy_term::{NoMemory, Terms};
 
 // The number of a literal of the draft's node, if it stands there.

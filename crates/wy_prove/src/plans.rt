@@ -1,8 +1,8 @@
 //! The steps of a plan that is to close a node, written to a draft.
 ghost use Rattle.std.specs.Prelude.{◌<◌, List, IfOk, IfSome, IsTrue, OnOk, length};
 ghost use Rattle.wy_prove.specs.Plans.{AreAmong, AreSortedAt, GoesOrEnds};
-ghost use Rattle.wy_prove_drafts.specs.Draft.{IsDraft, seen_draft};
-ghost use Rattle.wy_prove_drafts.specs.Progress.{Goes};
+ghost use Rattle.wy_prove_rounds.specs.wy_prove_drafts.Draft.{IsDraft, seen_draft};
+ghost use Rattle.wy_prove_rounds.specs.wy_prove_drafts.Progress.{Goes};
 ghost use Rattle.wy_facts.specs.Seen.{AreBelow, Stays};
 ghost use Rattle.wy_term.specs.Condition.{Entry};
 ghost use Rattle.wy_term.specs.Nodes.{tree_at};
@@ -11,10 +11,10 @@ use crate::numbers::{numbered, one_or_two};
 use std::alloc::Global;
 use wy_check_nodes::form_of_sum;
 use wy_lin_eliminate::common;
-use wy_prove_drafts::{
+use wy_prove_explaining::{Action, Named};
+use wy_prove_rounds::{
     Draft, close_by_clash, close_by_shut, close_by_sum, literal_number, write_chain, write_cut,
 };
-use wy_prove_explaining::{Action, Named};
 use wy_term::{NoMemory, Terms};
 
 // ---- chains

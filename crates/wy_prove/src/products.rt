@@ -2,11 +2,11 @@
 ghost use Rattle.std.specs.Prelude.{◌<◌, IfSome, OnOk, length};
 ghost use Rattle.wy_facts.specs.Seen.{Stays};
 ghost use Rattle.wy_check_nodes.specs.Seen.{IsBranch};
-ghost use Rattle.wy_search.specs.Known.{AreKnown};
+ghost use Rattle.wy_prove_rounds.specs.wy_search.Known.{AreKnown};
 
 use wy_check_nodes::{Branch, literal_at, pending_at};
 use wy_prove_explaining::{Action, Named};
-use wy_search::{Bound, Bounds, KnownForms, bounds_of, standing};
+use wy_prove_rounds::{Bound, Bounds, KnownForms, bounds_of, standing};
 use wy_term::{NoMemory, Node, Terms};
 
 // The literal that is a bound.

@@ -2,11 +2,11 @@
 ghost use Rattle.std.specs.Prelude.{◌≡◌, ◌<◌, ◌||◌, nat_lt, IfOk, IfSome, OnOk, length};
 ghost use Rattle.wy_prove.specs.Turns.{IsRound};
 ghost use Rattle.wy_prove.specs.declared.manner.Manner.TheVariants.{AsSearched};
-ghost use Rattle.wy_prove_drafts.specs.Draft.{IsDraft, seen_draft};
+ghost use Rattle.wy_prove_rounds.specs.wy_prove_drafts.Draft.{IsDraft, seen_draft};
 ghost use Rattle.wy_facts.specs.Membership.{AreTypesBelow};
 ghost use Rattle.wy_facts.specs.Seen.{Stays};
 ghost use Rattle.wy_prove_leaves.specs.wy_search_spec.Bounds.{Ending};
-ghost use Rattle.wy_search.specs.StatedSeen.{seen_spot, IsSpot};
+ghost use Rattle.wy_prove_rounds.specs.wy_search.StatedSeen.{seen_spot, IsSpot};
 ghost use Rattle.wy_term.specs.Condition.{condition_of};
 ghost use Rattle.wy_term.specs.Nodes.{tree_at};
 ghost use Rattle.wy_prove_rounds.specs.Rounds.{IsBeside};
@@ -14,9 +14,7 @@ ghost use Rattle.wy_prove_rounds.specs.Rounds.{IsBeside};
 use crate::halves::half_round;
 use crate::manner::Manner;
 use wy_check_nodes::Branch;
-use wy_prove_drafts::Draft;
-use wy_prove_rounds::write_round;
-use wy_search::Spot;
+use wy_prove_rounds::{Draft, Spot, write_round};
 use wy_term::{Cond, NoMemory, Terms};
 
 // How many literals and pending formulas a node has.

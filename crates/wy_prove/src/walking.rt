@@ -6,13 +6,13 @@ ghost use Rattle.wy_prove.specs.Turns.{IsJudged, IsLeafOver, IsNext};
 ghost use Rattle.wy_prove.specs.Walks.{seen_waiting, AreWaiting, IsFinished, IsTurned, IsTurnedTo, IsWalk, IsWalkLeft, StandsAt};
 ghost use Rattle.wy_prove.specs.declared.manner.Manner.TheVariants.{AsSearched};
 ghost use Rattle.wy_prove.specs.declared.turning.Next.TheVariants as next;
-ghost use Rattle.wy_prove_drafts.specs.Draft.{IsDraft, seen_draft};
+ghost use Rattle.wy_prove_rounds.specs.wy_prove_drafts.Draft.{IsDraft, seen_draft};
 ghost use Rattle.wy_facts.specs.Membership.{AreTypesBelow};
 ghost use Rattle.wy_facts.specs.Seen.{Stays};
 ghost use Rattle.wy_prove_rounds.specs.wy_check_spec.judge.Node.{added, denied_one};
 ghost use Rattle.wy_check_nodes.specs.Seen.{seen_branch, IsBranch};
 ghost use Rattle.wy_prove_leaves.specs.wy_search_spec.Expansion as search;
-ghost use Rattle.wy_search.specs.StatedSeen.{IsSpot};
+ghost use Rattle.wy_prove_rounds.specs.wy_search.StatedSeen.{IsSpot};
 ghost use Rattle.wy_term.specs.Condition.{Condition, condition_of};
 ghost use Rattle.wy_term.specs.Nodes.{Plain, tree_at};
 ghost use Rattle.wy_term.specs.Term.{Term};
@@ -24,9 +24,9 @@ use crate::turning::{Leaf, Next, what_follows};
 use std::collections::VecDeque;
 use wy_cert::Cert;
 use wy_check_nodes::{Branch, add};
-use wy_prove_drafts::{Draft, close_by_shut, first_draft, write_split};
-use wy_search::{Spot, first_spot};
-use wy_search_facts::copied_branch;
+use wy_prove_rounds::{
+    Draft, Spot, close_by_shut, copied_branch, first_draft, first_spot, write_split,
+};
 use wy_term::{Cond, NoMemory, Terms};
 
 /// The second node of a split, which waits: the search's, and the certificate's beside it.

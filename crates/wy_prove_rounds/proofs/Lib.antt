@@ -19,4 +19,5 @@ pub mod RoundLemmas
 -- passed on to the crates above
 pub use Rattle.wy_prove_drafts.proofs as wy_prove_drafts_proofs
 pub use Rattle.wy_search.proofs as wy_search_proofs
-pub use Rattle.wy_search_facts.proofs as wy_search_facts_proofs
+pub use Rattle.wy_search.proofs.wy_search_facts_proofs as wy_search_facts_proofs
+pub use Rattle.wy_search.proofs.wy_search_bounds_proofs as wy_search_bounds_proofs

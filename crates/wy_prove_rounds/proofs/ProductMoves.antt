@@ -1,9 +1,9 @@
 -- Products of bounds.
 use Rattle.std.proofs.Common.{◌≡◌, ◌∙◌, ◌-◌, ℕ, List, Bool, true, false, cond, eqb, ℤ, Option, Some, None, Result, refl, sym, ap₂, subst}
 use Rattle.std.specs.Prelude.{slice_get, IfNone, IfOk, IfSome}
-use Rattle.wy_search_bounds.proofs.ProductLemmas.{first_of}
-use Rattle.wy_search_bounds.specs.Bounds.{AreBounds, Pushes}
-use Rattle.wy_search_bounds.specs.declared.tightest.Bound.{Bound}
+use Rattle.wy_search.proofs.wy_search_bounds_proofs.ProductLemmas.{first_of}
+use Rattle.wy_search.specs.wy_search_bounds.Bounds.{AreBounds, Pushes}
+use Rattle.wy_search.specs.wy_search_bounds.declared.tightest.Bound.{Bound}
 use Rattle.wy_lemmas.proofs.Options.{some_same as some_is}
 use Rattle.wy_term.specs.Condition.{Entry}
 use Rattle.wy_prove_drafts.specs.wy_search_spec.Expansion.{with_product}

@@ -5,7 +5,7 @@ use Rattle.wy_facts.specs.Schema.{only_if}
 use Rattle.wy_check_nodes.specs.Seen.{seen_literal}
 use Rattle.wy_lemmas.proofs.Choices.{true_false}
 use Rattle.wy_search.proofs.SpotLemmas.{made_spot}
-use Rattle.wy_search_facts.proofs.SpotLemmas.{witness_had}
+use Rattle.wy_search.proofs.wy_search_facts_proofs.SpotLemmas.{witness_had}
 use Rattle.wy_prove_rounds.proofs.LoopLemmas.{one_more, so_far}
 use Rattle.wy_term.specs.Term.{Term}
 use Rattle.wy_term.specs.Condition.{Entry}

@@ -15,8 +15,8 @@ use crate::elements::{write_elements, write_pairs};
 use crate::kinds::write_kind_facts;
 use crate::plain::{write_lengths, write_plain};
 use wy_check_nodes::Branch;
-use wy_cong::standing;
 use wy_prove_drafts::Draft;
+use wy_search::standing;
 use wy_term::{Cond, NoMemory, Terms};
 
 // The facts of one schema.

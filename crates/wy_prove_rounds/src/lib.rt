@@ -17,3 +17,13 @@ mod stated;
 mod witnesses;
 
 pub use rounds::write_round;
+pub use wy_prove_drafts::{
+    Draft, close_by_clash, close_by_shut, close_by_sum, first_draft, literal_number, write_chain,
+    write_cut, write_fact, write_instance, write_product, write_split, write_witness,
+};
+pub use wy_search::{
+    Bound, Bounds, Carried, Ending, KnownForms, OpenLeaf, Spot, Verdict, Why, bounds_of, classes,
+    classes_clash, copied, copied_branch, ending_of_elimination, facts_of, first_spot, index_terms,
+    is_element, measured, no_forms, nothing_carried, products_of, read_count, search, standing,
+    terms_present, with_atom, with_instances, with_next_atom, with_witnesses, written_count,
+};

@@ -14,7 +14,7 @@ ghost use Rattle.wy_prove_rounds.specs.Moving.{AllOf, IsFit, Moves};
 use crate::stated::write_stated;
 use wy_check_nodes::{Branch, pending_at};
 use wy_prove_drafts::Draft;
-use wy_search_facts::measured;
+use wy_search::measured;
 use wy_term::{Cond, NoMemory, Terms};
 
 // What a schema states of a term; of a denial none states anything.

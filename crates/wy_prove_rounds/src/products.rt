@@ -1,7 +1,7 @@
 //! Products of bounds.
 ghost use Rattle.std.specs.Prelude.{◌≡◌, ◌<◌, List, Some, false, option_map, IfNone, IfOk, IfSome, OnOk, length, map};
-ghost use Rattle.wy_search_bounds.specs.Bounds.{AreTightest, Pushes};
-ghost use Rattle.wy_search_bounds.specs.Known.{AreKnown};
+ghost use Rattle.wy_search.specs.wy_search_bounds.Bounds.{AreTightest, Pushes};
+ghost use Rattle.wy_search.specs.wy_search_bounds.Known.{AreKnown};
 ghost use Rattle.wy_prove_drafts.specs.wy_search_laws.rounds.Leaves.{IsFoldedThroughout, IsSortedThroughout};
 ghost use Rattle.wy_prove_drafts.specs.Draft.{IsDraft, seen_draft};
 ghost use Rattle.wy_facts.specs.Seen.{Stays};
@@ -19,9 +19,8 @@ ghost use Rattle.wy_prove_drafts.specs.wy_check_spec.valid.Products.{as_product}
 ghost use Rattle.wy_prove_rounds.specs.Moving.{IsFit, Moves};
 
 use wy_check_nodes::{Branch, literal_at, pending_at};
-use wy_cong::standing;
 use wy_prove_drafts::{Draft, literal_number, write_product};
-use wy_search_bounds::{Bound, Bounds, KnownForms, bounds_of};
+use wy_search::{Bound, Bounds, KnownForms, bounds_of, standing};
 use wy_term::{NoMemory, Node, Terms};
 
 // The number that the literal with this number in the node has in the draft's node, if it stands there.

@@ -14,8 +14,7 @@ ghost use Rattle.wy_prove_rounds.specs.Moving.{Follows, IsAlong};
 use wy_check_nodes::{Branch, add_literal, has_literal, nth_literal};
 use wy_check_splits::of_one;
 use wy_prove_drafts::{Draft, literal_number, write_witness};
-use wy_search::Spot;
-use wy_search_facts::copied_branch;
+use wy_search::{Spot, copied_branch};
 use wy_term::{NoMemory, Terms};
 
 // The witness of a literal that calls for one.

@@ -11,3 +11,4 @@ pub use Rattle.wy_search_bounds.specs.Known
 -- passed on to the crates above
 pub use Rattle.wy_search_bounds.specs.wy_check_splits as wy_check_splits
 pub use Rattle.wy_search_facts.specs as wy_search_facts
+pub use Rattle.wy_search_bounds.specs as wy_search_bounds

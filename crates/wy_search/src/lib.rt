@@ -19,8 +19,10 @@ pub use turning::{Next, copied, what_follows, with_atom, with_next_atom};
 pub use verdict::{OpenLeaf, Verdict, Why};
 pub use walk::{first_spot, search};
 pub use wy_cong::{classes, classes_clash, standing, terms_present};
-pub use wy_search_bounds::{Bound, Bounds, KnownForms, bounds_of, no_forms, products_of};
+pub use wy_search_bounds::{
+    Bound, Bounds, Ending, KnownForms, bounds_of, ending_of_elimination, no_forms, products_of,
+};
 pub use wy_search_facts::{
-    Spot, facts_of, index_terms, is_element, measured, read_count, with_instances, with_witnesses,
-    written_count,
+    Spot, copied_branch, facts_of, index_terms, is_element, measured, read_count, with_instances,
+    with_witnesses, written_count,
 };

@@ -7,7 +7,7 @@ use Rattle.wy_lemmas.proofs.Choices.{or_not, or_regrouped as or_assoc}
 use Rattle.wy_term.specs.Term.{Term}
 use Rattle.wy_term.specs.Nodes.{Plain, tree_at}
 use Rattle.wy_cong.specs.wy_check_spec.judge.Node.{Literal}
-use Rattle.wy_check_nodes.specs.Seen.{seen_literal}
+use Rattle.wy_cong.specs.wy_check_nodes.Seen.{seen_literal}
 use Rattle.wy_cong.specs.wy_facts.Seen.{Stays}
 use Rattle.wy_cong.proofs.wy_facts_proofs.StepLemmas.{terms_kept, below_kept}
 use Rattle.wy_lin.specs.Linear.{◌>>=◌, Linear}

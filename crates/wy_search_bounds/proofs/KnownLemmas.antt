@@ -8,8 +8,8 @@ use Rattle.std.proofs.lemmas.List.{take_all, take_more}
 use Rattle.std.proofs.Math.Dec.{eqb-suc-suc, eqb-suc-zero, eqb-zero-suc}
 use Rattle.std.proofs.lemmas.Option.{slice_get_within}
 use Rattle.wy_cong.specs.wy_facts.Seen.{Stays}
-use Rattle.wy_check_nodes.specs.Seen.{same_signed, seen_literal}
-use Rattle.wy_check_nodes.proofs.FormLemmas.{form_up, with_parts, all_pushed}
+use Rattle.wy_cong.specs.wy_check_nodes.Seen.{same_signed, seen_literal}
+use Rattle.wy_cong.proofs.wy_check_nodes_proofs.FormLemmas.{form_up, with_parts, all_pushed}
 use Rattle.wy_lemmas.proofs.Choices.{and_false, and_end as and_true, and-left as and_first, and-right as and_second, bits_are as beq_true}
 use Rattle.wy_lemmas.proofs.Lists.{first_of, rest_of}
 use Rattle.wy_lemmas.proofs.Options.{pair_is as same_pair}

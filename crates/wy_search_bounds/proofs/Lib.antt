@@ -15,7 +15,7 @@ pub mod FirstLemmas
 -- passed on to the crates above
 pub use Rattle.wy_check.proofs as wy_check_proofs
 pub use Rattle.wy_check.proofs.wy_check_laws_proofs as wy_check_laws_proofs
-pub use Rattle.wy_check_nodes.proofs as wy_check_nodes_proofs
+pub use Rattle.wy_cong.proofs.wy_check_nodes_proofs as wy_check_nodes_proofs
 pub use Rattle.wy_cong.proofs.wy_check_spec_proofs as wy_check_spec_proofs
 pub use Rattle.wy_cong.proofs.wy_check_splits_proofs as wy_check_splits_proofs
 pub use Rattle.wy_cong.proofs.wy_facts_proofs as wy_facts_proofs

@@ -1,7 +1,7 @@
 -- Which forms are known.
 use Rattle.std.specs.Prelude.{◌≡◌, ◌<◌, ◌≤◌, ◌++◌, ℕ, List, Bool, true, false, Option, Some, None, IfSome, length, option_map, slice_get}
 use Rattle.std.specs.HashMap.{get}
-use Rattle.wy_check_nodes.specs.Seen.{same_signed, seen_literal}
+use Rattle.wy_cong.specs.wy_check_nodes.Seen.{same_signed, seen_literal}
 use Rattle.wy_lin.specs.Linear.{Linear}
 use Rattle.wy_lin.specs.Seen.{linear_form, seen_form, IsOver}
 use Rattle.wy_lin.specs.TermForm.{form_of_literal}

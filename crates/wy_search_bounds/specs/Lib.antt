@@ -14,7 +14,7 @@ pub mod Firsts
 pub use Rattle.wy_check.specs.wy_cert as wy_cert
 pub use Rattle.wy_check.specs as wy_check
 pub use Rattle.wy_check.specs.wy_check_laws as wy_check_laws
-pub use Rattle.wy_check_nodes.specs as wy_check_nodes
+pub use Rattle.wy_cong.specs.wy_check_nodes as wy_check_nodes
 pub use Rattle.wy_cong.specs.wy_check_spec as wy_check_spec
 pub use Rattle.wy_cong.specs.wy_check_splits as wy_check_splits
 pub use Rattle.wy_cong.specs as wy_cong

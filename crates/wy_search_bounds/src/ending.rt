@@ -4,14 +4,13 @@ ghost use Rattle.wy_search_bounds.specs.Known.{AreKnown};
 ghost use Rattle.wy_search_bounds.specs.Seen.{seen_ending};
 ghost use Rattle.wy_cong.specs.Seen.{terms_of, IsPresent};
 ghost use Rattle.wy_cong.specs.wy_facts.Seen.{Stays};
-ghost use Rattle.wy_check_nodes.specs.Seen.{IsBranch, seen_branch};
+ghost use Rattle.wy_cong.specs.wy_check_nodes.Seen.{IsBranch, seen_branch};
 ghost use Rattle.wy_cong.specs.wy_search_spec.Bounds as bounds;
 ghost use Rattle.wy_term.specs.Nodes.{tree_at};
 
 use crate::gathering::gather;
 use crate::known::KnownForms;
-use wy_check_nodes::Branch;
-use wy_cong::Present;
+use wy_cong::{Branch, Present};
 use wy_lin_eliminate::{Elim, eliminate};
 use wy_term::{NoMemory, Terms};
 

@@ -6,7 +6,7 @@ ghost use Rattle.wy_search_bounds.specs.Known.{AreKnown};
 ghost use Rattle.wy_search_bounds.specs.Seen.{seen_replaced};
 ghost use Rattle.wy_cong.specs.Seen.{terms_of, IsPresent};
 ghost use Rattle.wy_cong.specs.wy_facts.Seen.{Stays};
-ghost use Rattle.wy_check_nodes.specs.Seen.{IsBranch, seen_branch};
+ghost use Rattle.wy_cong.specs.wy_check_nodes.Seen.{IsBranch, seen_branch};
 ghost use Rattle.wy_cong.specs.wy_search_spec.Bounds as bounds;
 ghost use Rattle.wy_term.specs.Nodes.{tree_at};
 
@@ -15,8 +15,7 @@ use crate::forms::numbered;
 use crate::known::{KnownForms, known_form, place_of_form};
 use crate::replacing::{Replaced, replace_by};
 use std::alloc::Global;
-use wy_check_nodes::Branch;
-use wy_cong::Present;
+use wy_cong::{Branch, Present};
 use wy_lin::Form;
 use wy_term::{NoMemory, Terms};
 

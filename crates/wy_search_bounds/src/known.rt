@@ -3,7 +3,7 @@ ghost use Rattle.std.specs.Prelude.{◌≡◌, ◌<◌, ◌≤◌, ◌+◌, ℕ,
 ghost use Rattle.wy_search_bounds.specs.Known.{form_of_signed, form_placed, AgreesUpTo, AreKnown, IsFormAt, IsFormOf, IsPlace};
 ghost use Rattle.wy_search_bounds.specs.declared.known.Place.TheVariants as placed;
 ghost use Rattle.wy_cong.specs.wy_facts.Seen.{Stays};
-ghost use Rattle.wy_check_nodes.specs.Seen.{seen_branch, IsBranch};
+ghost use Rattle.wy_cong.specs.wy_check_nodes.Seen.{seen_branch, IsBranch};
 ghost use Rattle.wy_lin.specs.Seen.{linear_form, IsOver};
 ghost use Rattle.wy_term.specs.Nodes.{tree_at, Plain};
 ghost use Rattle.wy_term.specs.Term.{Term};
@@ -12,7 +12,7 @@ ghost use Rattle.wy_cong.specs.wy_check_spec.valid.Sums.{form_at};
 use crate::lasting::{LastingForms, lasting_place, no_lasting, note_lasting};
 use crate::passing::{PassingForms, no_passing, note_passing, passing_place};
 use std::alloc::Global;
-use wy_check_nodes::{Branch, form_at, nth_literal};
+use wy_cong::{Branch, form_at, nth_literal};
 use wy_lin::Form;
 use wy_term::{NoMemory, Terms};
 

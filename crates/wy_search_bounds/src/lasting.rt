@@ -1,7 +1,7 @@
 //! The forms of literals of old atoms.
 ghost use Rattle.std.specs.Prelude.{◌≡◌, ℕ, Bool, Some, cond, nat_eq, IfOk, OnOk};
 ghost use Rattle.wy_search_bounds.specs.Known.{lasting_place, place_there, AreNoted, Notes};
-ghost use Rattle.wy_check_nodes.specs.Seen.{same_signed};
+ghost use Rattle.wy_cong.specs.wy_check_nodes.Seen.{same_signed};
 ghost use Rattle.wy_term.specs.Term.{Term};
 
 use crate::made::push_form;

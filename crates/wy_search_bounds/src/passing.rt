@@ -2,7 +2,7 @@
 ghost use Rattle.std.specs.Prelude.{◌≡◌, ℕ, IfOk};
 ghost use Rattle.std.specs.HashMap.{get};
 ghost use Rattle.wy_search_bounds.specs.Known.{AreNoted, Notes};
-ghost use Rattle.wy_check_nodes.specs.Seen.{same_signed};
+ghost use Rattle.wy_cong.specs.wy_check_nodes.Seen.{same_signed};
 ghost use Rattle.wy_term.specs.Term.{Term};
 
 use crate::made::push_form;

@@ -5,7 +5,7 @@ ghost use Rattle.wy_search_bounds.specs.Bounds.{AreFactor, AreTightest, IsVaryin
 ghost use Rattle.wy_search_bounds.specs.Known.{AreKnown};
 ghost use Rattle.wy_cong.specs.wy_facts.Seen.{terms_at, AreBelow, Stays};
 ghost use Rattle.wy_cong.specs.wy_check_spec.judge.Node.{Node as TreeNode, with_formulas};
-ghost use Rattle.wy_check_nodes.specs.Seen.{seen_branch, seen_formula, IsBranch};
+ghost use Rattle.wy_cong.specs.wy_check_nodes.Seen.{seen_branch, seen_formula, IsBranch};
 ghost use Rattle.wy_lin.specs.Linear.{Linear};
 ghost use Rattle.wy_lin.specs.Seen.{linear_form, seen_form, seen_part, IsOver};
 ghost use Rattle.wy_lin.specs.TermForm.{form_of};
@@ -18,8 +18,7 @@ ghost use Rattle.wy_cong.specs.wy_check_spec.valid.Sums.{all_zero};
 use crate::known::KnownForms;
 use crate::tightest::{Bound, bound_of};
 use wy_check::product_stated;
-use wy_check_nodes::{Branch, pending_at};
-use wy_cong::standing;
+use wy_cong::{Branch, pending_at, standing};
 use wy_lin::{Form, term_form};
 use wy_term::{NoMemory, Node, Terms};
 

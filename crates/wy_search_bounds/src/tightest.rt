@@ -4,7 +4,7 @@ ghost use Rattle.wy_search_bounds.specs.Bounds.{AreBounds};
 ghost use Rattle.wy_search_bounds.specs.Known.{AreKnown};
 ghost use Rattle.wy_cong.specs.wy_facts.Seen.{Stays};
 ghost use Rattle.wy_cong.specs.wy_check_spec.judge.Node.{Literal};
-ghost use Rattle.wy_check_nodes.specs.Seen.{seen_branch, IsBranch};
+ghost use Rattle.wy_cong.specs.wy_check_nodes.Seen.{seen_branch, IsBranch};
 ghost use Rattle.wy_lin.specs.Linear.{◌>>=◌ as bind, Linear};
 ghost use Rattle.wy_lin.specs.Seen.{linear_form, seen_form, IsOver};
 ghost use Rattle.wy_check.specs.Seen.{AreAffine};
@@ -17,7 +17,7 @@ ghost use Rattle.wy_cong.specs.wy_check_spec.valid.Sums.{form_at};
 
 use crate::known::{KnownForms, known_form, literal_number, place_of_form};
 use wy_check::{Affine, relation};
-use wy_check_nodes::Branch;
+use wy_cong::Branch;
 use wy_lin::Form;
 use wy_term::{NoMemory, Terms};
 

@@ -8,3 +8,4 @@ mod law;
 pub mod least;
 
 pub use law::{leaves_are_these, one_verdict, open_leaves_are_these, small_searches_end_so};
+pub use wy_check_spec::judge;

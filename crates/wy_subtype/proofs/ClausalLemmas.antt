@@ -7,17 +7,17 @@ use Rattle.wy_lemmas.proofs.Choices.{both_parts as both, or_left, both_true as t
 use Rattle.wy_lemmas.proofs.Lists.{get_front}
 use Rattle.wy_lemmas.proofs.Options.{some_is as same_some}
 use Rattle.wy_canon.specs.wy_value.Datum.{Datum}
-use Rattle.wy_types.specs.declared.conjuncts.Signed.{Signed}
-use Rattle.wy_types.specs.declared.conjuncts.Conjunct.{Conjunct}
-use Rattle.wy_types.specs.declared.table.Table.{Table}
-use Rattle.wy_types.specs.Shape.{conjunct_in, any_in, part_in}
-use Rattle.wy_types.specs.Membership.{shape_of, member}
-use Rattle.wy_types.specs.Ranked.{IsRanked}
-use Rattle.wy_types.specs.Conjuncts.{dnf_part}
-use Rattle.wy_types.specs.Asks.{HasValue}
-use Rattle.wy_types.proofs.RankedLemmas.{has_laws}
-use Rattle.wy_types.proofs.TermLemmas.{any_in-dnf_part}
-use Rattle.wy_types.proofs.AskLemmas.{options_of-value}
+use Rattle.wy_canon.specs.wy_types.declared.conjuncts.Signed.{Signed}
+use Rattle.wy_canon.specs.wy_types.declared.conjuncts.Conjunct.{Conjunct}
+use Rattle.wy_canon.specs.wy_types.declared.table.Table.{Table}
+use Rattle.wy_canon.specs.wy_types.Shape.{conjunct_in, any_in, part_in}
+use Rattle.wy_canon.specs.wy_types.Membership.{shape_of, member}
+use Rattle.wy_canon.specs.wy_types.Ranked.{IsRanked}
+use Rattle.wy_canon.specs.wy_types.Conjuncts.{dnf_part}
+use Rattle.wy_canon.specs.wy_types.Asks.{HasValue}
+use Rattle.wy_canon.proofs.wy_types_proofs.RankedLemmas.{has_laws}
+use Rattle.wy_canon.proofs.wy_types_proofs.TermLemmas.{any_in-dnf_part}
+use Rattle.wy_canon.proofs.wy_types_proofs.AskLemmas.{options_of-value}
 use Rattle.wy_graph.specs.declared.closure.clauses.Clause.{Clause}
 use Rattle.wy_graph.specs.closure.Closure.{HaveHeads, IsClosed, IsReached, from_none, by_clause}
 use Rattle.wy_graph.proofs.closure_lemmas.MarkLemmas.{mark_old}

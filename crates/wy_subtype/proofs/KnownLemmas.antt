@@ -8,18 +8,18 @@ use Rattle.std.proofs.lemmas.Option.{slice_get_within}
 use Rattle.wy_lemmas.proofs.Choices.{both_true as two_true}
 use Rattle.wy_lemmas.proofs.Lists.{bytes_self, get_front, last_or}
 use Rattle.wy_lemmas.proofs.Options.{some_one as some_is}
-use Rattle.wy_types.specs.declared.conjuncts.Signed.{Signed}
-use Rattle.wy_types.specs.declared.conjuncts.Part.{Part}
-use Rattle.wy_types.specs.declared.conjuncts.Atom.{Atom}
-use Rattle.wy_types.specs.declared.conjuncts.Atom.TheVariants as atom
-use Rattle.wy_types.specs.declared.conjuncts.Conjunct.{Conjunct}
-use Rattle.wy_types.specs.declared.table.Table.{Table}
-use Rattle.wy_types.specs.Shape.{signed_as}
-use Rattle.wy_types.specs.Claims.{SomeOf, EachOf, IsIn, AreDifferent}
-use Rattle.wy_types.specs.Conjuncts.{same_term, dnf_part, narrow_part}
-use Rattle.wy_types.specs.Same as same
-use Rattle.wy_types.specs.Asks.{few_ways}
-use Rattle.wy_types.specs.Reach.{Reaches, at_first, by_asking, IsNeeded, IsWide}
+use Rattle.wy_canon.specs.wy_types.declared.conjuncts.Signed.{Signed}
+use Rattle.wy_canon.specs.wy_types.declared.conjuncts.Part.{Part}
+use Rattle.wy_canon.specs.wy_types.declared.conjuncts.Atom.{Atom}
+use Rattle.wy_canon.specs.wy_types.declared.conjuncts.Atom.TheVariants as atom
+use Rattle.wy_canon.specs.wy_types.declared.conjuncts.Conjunct.{Conjunct}
+use Rattle.wy_canon.specs.wy_types.declared.table.Table.{Table}
+use Rattle.wy_canon.specs.wy_types.Shape.{signed_as}
+use Rattle.wy_canon.specs.wy_types.Claims.{SomeOf, EachOf, IsIn, AreDifferent}
+use Rattle.wy_canon.specs.wy_types.Conjuncts.{same_term, dnf_part, narrow_part}
+use Rattle.wy_canon.specs.wy_types.Same as same
+use Rattle.wy_canon.specs.wy_types.Asks.{few_ways}
+use Rattle.wy_canon.specs.wy_types.Reach.{Reaches, at_first, by_asking, IsNeeded, IsWide}
 use Rattle.wy_subtype.specs.declared.reach.InternedAll.{InternedAll}
 use Rattle.wy_subtype.specs.declared.reach.Reach.{Reach}
 use Rattle.wy_subtype.specs.Numbers.{AreAt, AreAllAt}

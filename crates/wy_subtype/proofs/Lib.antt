@@ -8,4 +8,4 @@ pub mod ValuedLemmas
 pub mod ClausalLemmas
 pub mod RefusalLemmas
 -- passed on to the crates above
-pub use Rattle.wy_types.proofs as wy_types_proofs
+pub use Rattle.wy_canon.proofs.wy_types_proofs as wy_types_proofs

@@ -4,10 +4,10 @@ use Rattle.std.specs.Prelude.{slice_get}
 use Rattle.std.proofs.lemmas.Bool.{or_cases}
 use Rattle.wy_lemmas.proofs.Choices.{both_parts as both, or_left, both_true as two_true, or_right}
 use Rattle.wy_lemmas.proofs.Options.{some_one as some_is}
-use Rattle.wy_types.specs.declared.conjuncts.Signed.{Signed}
-use Rattle.wy_types.specs.declared.table.Table.{Table}
-use Rattle.wy_types.specs.Claims.{SomeOf, EachOf}
-use Rattle.wy_types.specs.Asks.{HasValue, IsMet}
+use Rattle.wy_canon.specs.wy_types.declared.conjuncts.Signed.{Signed}
+use Rattle.wy_canon.specs.wy_types.declared.table.Table.{Table}
+use Rattle.wy_canon.specs.wy_types.Claims.{SomeOf, EachOf}
+use Rattle.wy_canon.specs.wy_types.Asks.{HasValue, IsMet}
 use Rattle.wy_subtype.specs.Numbers.{AreAt, AreEachAt, AreAllAt}
 use Rattle.wy_subtype.specs.Marks.{mark_at, any_marked, each_marked, met, part_marks, HaveValues}
 

@@ -2,13 +2,13 @@
 use Rattle.std.proofs.Common.{◌≡◌, ℕ, ◌<◌, ◌≤◌, List, [], ◌∷◌, length, true, false, inl, inr, Some, refl, sym, subst, arith}
 use Rattle.std.specs.Prelude.{slice_get}
 use Rattle.std.proofs.lemmas.Option.{slice_get_within}
-use Rattle.wy_types.specs.declared.conjuncts.Signed.{Signed}
-use Rattle.wy_types.specs.declared.conjuncts.Conjunct.{Conjunct}
-use Rattle.wy_types.specs.declared.table.Table.{Table}
-use Rattle.wy_types.specs.Claims.{SomeOf, EachOf, IsIn}
-use Rattle.wy_types.specs.Conjuncts.{dnf_part, narrow_part}
-use Rattle.wy_types.specs.Asks.{few_ways}
-use Rattle.wy_types.specs.Reach.{IsAsked, Reaches, at_first, by_asking, IsNeeded, IsWide}
+use Rattle.wy_canon.specs.wy_types.declared.conjuncts.Signed.{Signed}
+use Rattle.wy_canon.specs.wy_types.declared.conjuncts.Conjunct.{Conjunct}
+use Rattle.wy_canon.specs.wy_types.declared.table.Table.{Table}
+use Rattle.wy_canon.specs.wy_types.Claims.{SomeOf, EachOf, IsIn}
+use Rattle.wy_canon.specs.wy_types.Conjuncts.{dnf_part, narrow_part}
+use Rattle.wy_canon.specs.wy_types.Asks.{few_ways}
+use Rattle.wy_canon.specs.wy_types.Reach.{IsAsked, Reaches, at_first, by_asking, IsNeeded, IsWide}
 use Rattle.wy_subtype.specs.declared.reach.Reach.{Reach}
 use Rattle.wy_subtype.specs.Numbers.{AreAt, AreEachAt, AreAllAt}
 use Rattle.wy_subtype.specs.Known.{options_of, IsReach}

@@ -4,7 +4,7 @@ use Rattle.std.specs.Prelude.{slice_get}
 use Rattle.std.proofs.lemmas.List.{take_more}
 use Rattle.std.proofs.lemmas.Option.{slice_get_within}
 use Rattle.wy_lemmas.proofs.Options.{some_one as some_is}
-use Rattle.wy_types.specs.Claims.{SomeOf, EachOf, IsIn, AreDifferent}
+use Rattle.wy_canon.specs.wy_types.Claims.{SomeOf, EachOf, IsIn, AreDifferent}
 use Rattle.wy_subtype.specs.Numbers.{Keeps, AreAt, AreEachAt, AreAllAt}
 
 -- ---- places

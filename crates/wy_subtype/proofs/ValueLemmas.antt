@@ -6,21 +6,21 @@ use Rattle.std.proofs.lemmas.Option.{slice_get_within}
 use Rattle.wy_lemmas.proofs.Choices.{both_parts as both, or_left, or_right}
 use Rattle.wy_canon.specs.wy_value.Datum.{Datum, Data, Fields, no_items, item, no_fields, field}
 use Rattle.wy_canon.specs.wy_value.Datum as datum
-use Rattle.wy_types.specs.declared.conjuncts.Signed.{Signed}
-use Rattle.wy_types.specs.declared.conjuncts.Conjunct.{Conjunct}
-use Rattle.wy_types.specs.declared.table.Table.{Table}
-use Rattle.wy_types.specs.Shape.{part_in, atom_in, none_in, conjunct_in, any_in}
-use Rattle.wy_types.specs.Claims.{SomeOf, EachOf}
-use Rattle.wy_types.specs.Membership.{shape_of, item_readers, field_readers, member}
-use Rattle.wy_types.specs.Ranked.{IsRanked}
-use Rattle.wy_types.specs.Conjuncts.{dnf_part, with_sides}
-use Rattle.wy_types.specs.Asks.{all_options, options, HasValue, IsMet}
-use Rattle.wy_types.specs.Reach.{outside}
-use Rattle.wy_types.proofs.ClaimLemmas.{some_split, each_append, met_within}
-use Rattle.wy_types.proofs.RankedLemmas.{has_laws, is_lawful}
-use Rattle.wy_types.proofs.TermLemmas.{any_in-dnf_part, part_in-with_sides}
-use Rattle.wy_types.proofs.AskLemmas.{HasPiece, options_of-ask}
-use Rattle.wy_types.proofs.FoundLemmas.{found}
+use Rattle.wy_canon.specs.wy_types.declared.conjuncts.Signed.{Signed}
+use Rattle.wy_canon.specs.wy_types.declared.conjuncts.Conjunct.{Conjunct}
+use Rattle.wy_canon.specs.wy_types.declared.table.Table.{Table}
+use Rattle.wy_canon.specs.wy_types.Shape.{part_in, atom_in, none_in, conjunct_in, any_in}
+use Rattle.wy_canon.specs.wy_types.Claims.{SomeOf, EachOf}
+use Rattle.wy_canon.specs.wy_types.Membership.{shape_of, item_readers, field_readers, member}
+use Rattle.wy_canon.specs.wy_types.Ranked.{IsRanked}
+use Rattle.wy_canon.specs.wy_types.Conjuncts.{dnf_part, with_sides}
+use Rattle.wy_canon.specs.wy_types.Asks.{all_options, options, HasValue, IsMet}
+use Rattle.wy_canon.specs.wy_types.Reach.{outside}
+use Rattle.wy_canon.proofs.wy_types_proofs.ClaimLemmas.{some_split, each_append, met_within}
+use Rattle.wy_canon.proofs.wy_types_proofs.RankedLemmas.{has_laws, is_lawful}
+use Rattle.wy_canon.proofs.wy_types_proofs.TermLemmas.{any_in-dnf_part, part_in-with_sides}
+use Rattle.wy_canon.proofs.wy_types_proofs.AskLemmas.{HasPiece, options_of-ask}
+use Rattle.wy_canon.proofs.wy_types_proofs.FoundLemmas.{found}
 use Rattle.wy_subtype.specs.declared.reach.Reach.{Reach}
 use Rattle.wy_subtype.specs.Numbers.{AreAt}
 use Rattle.wy_subtype.specs.Marks.{mark_at, any_marked, met, part_marks, HaveValues, AreSound, AreClosedBy}

@@ -4,25 +4,25 @@ use Rattle.std.specs.Prelude.{slice_get}
 use Rattle.std.specs.Option.{option_to_list}
 use Rattle.wy_lemmas.proofs.Choices.{or_left, both_true as two_true}
 use Rattle.wy_canon.specs.wy_value.Datum.{Datum}
-use Rattle.wy_types.specs.declared.conjuncts.Signed.{Signed}
-use Rattle.wy_types.specs.declared.conjuncts.Conjunct.{Conjunct}
-use Rattle.wy_types.specs.declared.table.Table.{Table}
-use Rattle.wy_types.specs.Shape.{conjunct_in, any_in}
-use Rattle.wy_types.specs.Claims.{EachOf}
-use Rattle.wy_types.specs.Membership.{shape_of}
-use Rattle.wy_types.specs.Ranked.{IsRanked}
+use Rattle.wy_canon.specs.wy_types.declared.conjuncts.Signed.{Signed}
+use Rattle.wy_canon.specs.wy_types.declared.conjuncts.Conjunct.{Conjunct}
+use Rattle.wy_canon.specs.wy_types.declared.table.Table.{Table}
+use Rattle.wy_canon.specs.wy_types.Shape.{conjunct_in, any_in}
+use Rattle.wy_canon.specs.wy_types.Claims.{EachOf}
+use Rattle.wy_canon.specs.wy_types.Membership.{shape_of}
+use Rattle.wy_canon.specs.wy_types.Ranked.{IsRanked}
 use Rattle.wy_subtype.specs.declared.reach.Reach.{Reach}
 use Rattle.wy_subtype.specs.Numbers.{AreAt}
 use Rattle.wy_subtype.specs.Marks.{mark_at, part_marks, AreSound, AreClosedBy}
 use Rattle.wy_subtype.specs.Known.{IsReach}
 use Rattle.wy_subtype.specs.Valued.{HasDatum, AreValued, marked}
 use Rattle.std.proofs.lemmas.Option.{slice_get_within}
-use Rattle.wy_types.specs.declared.conjuncts.Part.{Part}
-use Rattle.wy_types.specs.declared.conjuncts.Atom.{Atom}
-use Rattle.wy_types.specs.declared.conjuncts.Atom.TheVariants as atom
-use Rattle.wy_types.specs.Claims.{SomeOf}
-use Rattle.wy_types.specs.Asks.{HasValue, alone, all_alone, ways_from}
-use Rattle.wy_types.specs.Asks as asking
+use Rattle.wy_canon.specs.wy_types.declared.conjuncts.Part.{Part}
+use Rattle.wy_canon.specs.wy_types.declared.conjuncts.Atom.{Atom}
+use Rattle.wy_canon.specs.wy_types.declared.conjuncts.Atom.TheVariants as atom
+use Rattle.wy_canon.specs.wy_types.Claims.{SomeOf}
+use Rattle.wy_canon.specs.wy_types.Asks.{HasValue, alone, all_alone, ways_from}
+use Rattle.wy_canon.specs.wy_types.Asks as asking
 use Rattle.wy_subtype.specs.Numbers.{AreEachAt, AreAllAt}
 use Rattle.wy_subtype.specs.Marks.{any_marked, each_marked, HaveValues}
 use Rattle.wy_subtype.specs.Valued.{IsInhabited, AreInhabited, atom_ways, ways_of, all_ways, held_ways, held_by, held_of, held_all}

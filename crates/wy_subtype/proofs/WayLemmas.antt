@@ -4,9 +4,9 @@ use Rattle.std.specs.Prelude.{leb}
 use Rattle.std.proofs.lemmas.Bool.Decides.{leb_tells}
 use Rattle.std.proofs.Common.{List, ◌∷◌, length, drop, get_or}
 use Rattle.std.proofs.lemmas.List.{drop_more}
-use Rattle.wy_types.specs.declared.conjuncts.Part.{Part}
-use Rattle.wy_types.specs.declared.conjuncts.Atom.{Atom}
-use Rattle.wy_types.specs.Asks.{ways_by, ways_count}
+use Rattle.wy_canon.specs.wy_types.declared.conjuncts.Part.{Part}
+use Rattle.wy_canon.specs.wy_types.declared.conjuncts.Atom.{Atom}
+use Rattle.wy_canon.specs.wy_types.Asks.{ways_by, ways_count}
 use Rattle.wy_subtype.specs.Ways.{cap}
 
 pub cap_few : (n : ℕ) → n ≤ 16384 → cap n ≡ n

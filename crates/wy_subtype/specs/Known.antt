@@ -3,14 +3,14 @@ use Rattle.std.specs.Prelude.{◌≡◌, ◌≤◌, ℕ, List, [], ◌∷◌, �
 use Rattle.std.specs.declared.result.Result.{Result}
 use Rattle.wy_canon.specs.declared.fault.TypeFault.{TypeFault}
 use Rattle.wy_canon.specs.declared.fault.TypeFault.TheVariants.{TypeWide, NoMemory}
-use Rattle.wy_types.specs.declared.conjuncts.Signed.{Signed}
-use Rattle.wy_types.specs.declared.conjuncts.Conjunct.{Conjunct}
-use Rattle.wy_types.specs.declared.table.Table.{Table}
-use Rattle.wy_types.specs.Claims.{EachOf, AreDifferent}
-use Rattle.wy_types.specs.Conjuncts.{dnf_part, narrow_part}
-use Rattle.wy_types.specs.Asks as asks
-use Rattle.wy_types.specs.Asks.{few_ways}
-use Rattle.wy_types.specs.Reach.{Reaches}
+use Rattle.wy_canon.specs.wy_types.declared.conjuncts.Signed.{Signed}
+use Rattle.wy_canon.specs.wy_types.declared.conjuncts.Conjunct.{Conjunct}
+use Rattle.wy_canon.specs.wy_types.declared.table.Table.{Table}
+use Rattle.wy_canon.specs.wy_types.Claims.{EachOf, AreDifferent}
+use Rattle.wy_canon.specs.wy_types.Conjuncts.{dnf_part, narrow_part}
+use Rattle.wy_canon.specs.wy_types.Asks as asks
+use Rattle.wy_canon.specs.wy_types.Asks.{few_ways}
+use Rattle.wy_canon.specs.wy_types.Reach.{Reaches}
 use Rattle.wy_subtype.specs.declared.reach.Interned.{Interned}
 use Rattle.wy_subtype.specs.declared.reach.InternedAll.{InternedAll}
 use Rattle.wy_subtype.specs.declared.reach.Reach.{Reach}

@@ -1,12 +1,12 @@
 -- Marks of what has a value.
 use Rattle.std.specs.Prelude.{◌≡◌, ℕ, ◌<◌, List, [], ◌∷◌, Bool, true, false, ◌&&◌, ◌||◌, Some, slice_get}
 use Rattle.wy_canon.specs.wy_value.Datum.{Datum}
-use Rattle.wy_types.specs.declared.conjuncts.Signed.{Signed}
-use Rattle.wy_types.specs.declared.conjuncts.Conjunct.{Conjunct}
-use Rattle.wy_types.specs.declared.table.Table.{Table}
-use Rattle.wy_types.specs.Shape.{conjunct_in}
-use Rattle.wy_types.specs.Membership.{shape_of}
-use Rattle.wy_types.specs.Asks.{HasValue}
+use Rattle.wy_canon.specs.wy_types.declared.conjuncts.Signed.{Signed}
+use Rattle.wy_canon.specs.wy_types.declared.conjuncts.Conjunct.{Conjunct}
+use Rattle.wy_canon.specs.wy_types.declared.table.Table.{Table}
+use Rattle.wy_canon.specs.wy_types.Shape.{conjunct_in}
+use Rattle.wy_canon.specs.wy_types.Membership.{shape_of}
+use Rattle.wy_canon.specs.wy_types.Asks.{HasValue}
 pub use Rattle.wy_graph.specs.closure.Marks.{mark_at, any_marked, each_marked}
 
 -- one option is met by the marks

@@ -2,14 +2,14 @@
 use Rattle.std.specs.Prelude.{◌≡◌, ℕ, List, [], ◌∷◌, ◌++◌, Bool, true, false, cond, ◌⊎◌, Option, Some, None, slice_get}
 use Rattle.std.specs.Option.{option_to_list}
 use Rattle.wy_canon.specs.wy_value.Datum.{Datum}
-use Rattle.wy_types.specs.declared.conjuncts.Part.{Part}
-use Rattle.wy_types.specs.declared.conjuncts.Atom.{Atom}
-use Rattle.wy_types.specs.declared.conjuncts.Atom.TheVariants as atom
-use Rattle.wy_types.specs.declared.conjuncts.Conjunct.{Conjunct}
-use Rattle.wy_types.specs.declared.table.Table.{Table}
-use Rattle.wy_types.specs.Asks.{HasValue, ways_from}
-use Rattle.wy_types.specs.Shape.{conjunct_in}
-use Rattle.wy_types.specs.Membership.{shape_of}
+use Rattle.wy_canon.specs.wy_types.declared.conjuncts.Part.{Part}
+use Rattle.wy_canon.specs.wy_types.declared.conjuncts.Atom.{Atom}
+use Rattle.wy_canon.specs.wy_types.declared.conjuncts.Atom.TheVariants as atom
+use Rattle.wy_canon.specs.wy_types.declared.conjuncts.Conjunct.{Conjunct}
+use Rattle.wy_canon.specs.wy_types.declared.table.Table.{Table}
+use Rattle.wy_canon.specs.wy_types.Asks.{HasValue, ways_from}
+use Rattle.wy_canon.specs.wy_types.Shape.{conjunct_in}
+use Rattle.wy_canon.specs.wy_types.Membership.{shape_of}
 use Rattle.wy_subtype.specs.declared.valued.Inhabited.{Inhabited}
 use Rattle.wy_subtype.specs.Marks.{mark_at, each_marked}
 

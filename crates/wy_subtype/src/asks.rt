@@ -1,13 +1,12 @@
 //! What conjuncts ask: the parts whose values decide whether they have one.
 ghost use Rattle.std.specs.Prelude.{◌≡◌, ◌++◌, ◌∷◌, [], ℕ, IfOk};
-ghost use Rattle.wy_types.specs.Asks as asks;
-ghost use Rattle.wy_types.specs.Shape.{BoolShape, IntShape, NullShape, none_in};
+ghost use Rattle.wy_canon.specs.wy_types.Asks as asks;
+ghost use Rattle.wy_canon.specs.wy_types.Shape.{BoolShape, IntShape, NullShape, none_in};
 
 use std::alloc::{AllocError, Global};
-use wy_canon::{copy_fields, copy_terms, same_names, with_sides};
+use wy_canon::{Atom, Part, Signed, Table, copy_fields, copy_terms, same_names, with_sides};
 use wy_data::Name;
 use wy_items::Items;
-use wy_types::{Atom, Part, Signed, Table};
 
 // The part, and the other sign of a term.
 fn with_denied(

@@ -1,17 +1,16 @@
 //! Inclusion of terms.
 ghost use Rattle.std.specs.Prelude.{◌≡◌, ℕ, [], true, false, IfOk};
-ghost use Rattle.wy_types.specs.Conjuncts as conjuncts;
+ghost use Rattle.wy_canon.specs.wy_types.Conjuncts as conjuncts;
 ghost use Rattle.wy_subtype.specs.Known.{WideOnly};
-ghost use Rattle.wy_types.specs.Membership.{member};
-ghost use Rattle.wy_types.specs.Ranked.{IsRanked};
-ghost use Rattle.wy_types.specs.Reach.{IsWide, outside};
+ghost use Rattle.wy_canon.specs.wy_types.Membership.{member};
+ghost use Rattle.wy_canon.specs.wy_types.Ranked.{IsRanked};
+ghost use Rattle.wy_canon.specs.wy_types.Reach.{IsWide, outside};
 ghost use Rattle.wy_canon.specs.wy_value.Datum.{Datum};
 
 use crate::values::has_value;
 use std::alloc::{AllocError, Global};
-use wy_canon::{TypeFault, with_sides};
+use wy_canon::{Signed, Table, TypeFault, with_sides};
 use wy_items::Items;
-use wy_types::{Signed, Table};
 
 // What is in `a` and not in `b`.
 fn outside_part(

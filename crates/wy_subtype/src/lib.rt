@@ -22,3 +22,7 @@ pub use inclusion::{is_inhabited, is_within};
 pub use questions::{empty, empty_in, subtype, subtype_in};
 pub use valued::{Inhabited, inhabited_parts, narrow_conjuncts, valued_conjuncts};
 pub use values::has_value;
+pub use wy_canon::{
+    Atom, Conjunct, Names, Part, Question, Signed, Table, TypeFault, conjuncts_at, copy_part,
+    copy_terms, dnf_part, united_conjuncts, with_sides,
+};

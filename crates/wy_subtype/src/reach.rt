@@ -1,20 +1,20 @@
 //! The conjuncts and parts that a question reaches, each met once.
 ghost use Rattle.std.specs.Prelude.{◌≡◌, ◌++◌, ◌<◌, ◌≤◌, ℕ, [], ◌∷◌, length, true, false, Some, None, IfOk, IfSome, slice_get, is_some};
 ghost use Rattle.wy_subtype.specs.Known as known;
-ghost use Rattle.wy_types.specs.Asks.{few_ways};
-ghost use Rattle.wy_types.specs.Claims.{AreDifferent, EachOf};
-ghost use Rattle.wy_types.specs.Conjuncts.{same_term};
-ghost use Rattle.wy_types.specs.Reach.{Reaches, IsNeeded, IsWide};
-ghost use Rattle.wy_types.specs.Same as same;
+ghost use Rattle.wy_canon.specs.wy_types.Asks.{few_ways};
+ghost use Rattle.wy_canon.specs.wy_types.Claims.{AreDifferent, EachOf};
+ghost use Rattle.wy_canon.specs.wy_types.Conjuncts.{same_term};
+ghost use Rattle.wy_canon.specs.wy_types.Reach.{Reaches, IsNeeded, IsWide};
+ghost use Rattle.wy_canon.specs.wy_types.Same as same;
 
 use crate::asks::options_of;
 use crate::ways::few_ways;
 use std::alloc::{AllocError, Global};
 use wy_canon::{
-    LIMIT, NumberedConjuncts, NumberedParts, TypeFault, copy_conjunct, copy_terms, dnf_part,
+    Conjunct, LIMIT, NumberedConjuncts, NumberedParts, Signed, Table, TypeFault, copy_conjunct,
+    copy_terms, dnf_part,
 };
 use wy_items::Items;
-use wy_types::{Conjunct, Signed, Table};
 
 /// Conjuncts, with the number of one of them.
 #[derive(Drop)]

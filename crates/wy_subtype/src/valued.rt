@@ -3,20 +3,21 @@ ghost use Rattle.std.specs.Prelude.{◌≡◌, ℕ, IfOk, slice_get};
 ghost use Rattle.wy_subtype.specs.Known.{WideOnly};
 ghost use Rattle.wy_subtype.specs.Valued as valued;
 ghost use Rattle.wy_subtype.specs.Valued.{AreThose, AreValued};
-ghost use Rattle.wy_types.specs.Conjuncts as conjuncts;
-ghost use Rattle.wy_types.specs.Ranked.{IsRanked};
-ghost use Rattle.wy_types.specs.Reach.{IsWide};
+ghost use Rattle.wy_canon.specs.wy_types.Conjuncts as conjuncts;
+ghost use Rattle.wy_canon.specs.wy_types.Ranked.{IsRanked};
+ghost use Rattle.wy_canon.specs.wy_types.Reach.{IsWide};
 
 use crate::asks::ways_from;
 use crate::marks::part_marks;
 use crate::reach::{Added, Reach, reach_of};
 use crate::values::values;
 use std::alloc::{AllocError, Global};
-use wy_canon::{TypeFault, copy_conjunct, copy_fields, dnf_part};
+use wy_canon::{
+    Atom, Conjunct, Part, Signed, Table, TypeFault, copy_conjunct, copy_fields, dnf_part,
+};
 use wy_data::Name;
 use wy_graph::closure::{each_marked, mark_at};
 use wy_items::{Items, at};
-use wy_types::{Atom, Conjunct, Part, Signed, Table};
 
 /// Conjuncts that have a value, and of the records among them the ways in which every field's part
 /// has one, each way with all fields.

@@ -2,21 +2,20 @@
 ghost use Rattle.std.specs.Prelude.{◌≡◌, ℕ, length, true, false, IfOk};
 ghost use Rattle.wy_subtype.specs.Known.{WideOnly, IsKnown};
 ghost use Rattle.wy_subtype.specs.Marks.{part_marks, AreSound, AreClosedBy};
-ghost use Rattle.wy_types.specs.Asks.{HasValue};
-ghost use Rattle.wy_types.specs.Membership.{member};
-ghost use Rattle.wy_types.specs.Ranked.{IsRanked};
-ghost use Rattle.wy_types.specs.Reach.{IsWide};
-ghost use Rattle.wy_types.specs.Shape.{part_in};
+ghost use Rattle.wy_canon.specs.wy_types.Asks.{HasValue};
+ghost use Rattle.wy_canon.specs.wy_types.Membership.{member};
+ghost use Rattle.wy_canon.specs.wy_types.Ranked.{IsRanked};
+ghost use Rattle.wy_canon.specs.wy_types.Reach.{IsWide};
+ghost use Rattle.wy_canon.specs.wy_types.Shape.{part_in};
 ghost use Rattle.wy_canon.specs.wy_value.Datum.{Datum};
 
 use crate::clausal::{clauses_of, part_count, total};
 use crate::marks::{marks_from, part_marks};
 use crate::reach::{Added, Reach, reach_of};
 use std::alloc::{AllocError, Global};
-use wy_canon::TypeFault;
+use wy_canon::{Signed, Table, TypeFault};
 use wy_graph::closure::{close, mark_at};
 use wy_items::Items;
-use wy_types::{Signed, Table};
 
 // The marks of all conjuncts with a value, by a work list over the clauses of what was reached.
 fn marks_of(

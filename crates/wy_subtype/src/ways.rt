@@ -1,11 +1,10 @@
 //! How many ways a record without records has. Numbers above the limit are all the same here.
 ghost use Rattle.std.specs.Prelude.{◌≡◌, ◌+◌, ◌*◌};
 ghost use Rattle.wy_subtype.specs.Ways.{cap};
-ghost use Rattle.wy_types.specs.Asks as asks;
+ghost use Rattle.wy_canon.specs.wy_types.Asks as asks;
 
-use wy_canon::{LIMIT, same_names};
+use wy_canon::{Atom, Conjunct, LIMIT, Part, same_names};
 use wy_data::Name;
-use wy_types::{Atom, Conjunct, Part};
 
 fn capped(count: usize) -> usize
     ensures value { result ≡ cap count }

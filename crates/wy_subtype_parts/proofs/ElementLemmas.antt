@@ -2,23 +2,23 @@
 use Rattle.std.proofs.Common.{◌≡◌, ◌↔◌, ℕ, List, [], ◌∷◌, Bool, true, false, ◌&&◌, ◌||◌, ◌⊎◌, inl, inr, refl, sym, ap, subst, ◌∙◌}
 use Rattle.std.proofs.lemmas.Bool.{or_cases}
 use Rattle.wy_lemmas.proofs.Choices.{or_none as or_false, both_parts as both, or_left, both_true as two_true, or_right, or_assoc}
-use Rattle.wy_types.specs.NodeLaws.{same_term_is}
+use Rattle.wy_subtype.specs.wy_types.NodeLaws.{same_term_is}
 use Rattle.wy_subtype.specs.wy_value.Datum.{Datum, Data, no_items, item}
 use Rattle.wy_subtype.specs.wy_value.Datum as datum
-use Rattle.wy_types.specs.declared.conjuncts.Signed.{Signed}
-use Rattle.wy_types.specs.declared.conjuncts.Atom.{Atom}
-use Rattle.wy_types.specs.declared.conjuncts.Atom.TheVariants as atom
-use Rattle.wy_types.specs.declared.conjuncts.Conjunct.{Conjunct}
-use Rattle.wy_types.specs.declared.table.Table.{Table}
-use Rattle.wy_types.specs.Shape.{part_in, each_in, atom_in, none_in, conjunct_in, any_in}
-use Rattle.wy_types.specs.Claims.{EachOf}
-use Rattle.wy_types.specs.Membership.{shape_of, item_readers, member}
-use Rattle.wy_types.specs.Ranked.{IsRanked}
-use Rattle.wy_types.specs.Conjuncts.{same_term, dnf_part}
-use Rattle.wy_types.proofs.OnceLemmas.{any_in-united_conjuncts}
-use Rattle.wy_types.proofs.RankedLemmas.{has_laws}
-use Rattle.wy_types.proofs.TermLemmas.{any_in-dnf_part}
-use Rattle.wy_types.proofs.AskLemmas.{none_in-more}
+use Rattle.wy_subtype.specs.wy_types.declared.conjuncts.Signed.{Signed}
+use Rattle.wy_subtype.specs.wy_types.declared.conjuncts.Atom.{Atom}
+use Rattle.wy_subtype.specs.wy_types.declared.conjuncts.Atom.TheVariants as atom
+use Rattle.wy_subtype.specs.wy_types.declared.conjuncts.Conjunct.{Conjunct}
+use Rattle.wy_subtype.specs.wy_types.declared.table.Table.{Table}
+use Rattle.wy_subtype.specs.wy_types.Shape.{part_in, each_in, atom_in, none_in, conjunct_in, any_in}
+use Rattle.wy_subtype.specs.wy_types.Claims.{EachOf}
+use Rattle.wy_subtype.specs.wy_types.Membership.{shape_of, item_readers, member}
+use Rattle.wy_subtype.specs.wy_types.Ranked.{IsRanked}
+use Rattle.wy_subtype.specs.wy_types.Conjuncts.{same_term, dnf_part}
+use Rattle.wy_subtype.proofs.wy_types_proofs.OnceLemmas.{any_in-united_conjuncts}
+use Rattle.wy_subtype.proofs.wy_types_proofs.RankedLemmas.{has_laws}
+use Rattle.wy_subtype.proofs.wy_types_proofs.TermLemmas.{any_in-dnf_part}
+use Rattle.wy_subtype.proofs.wy_types_proofs.AskLemmas.{none_in-more}
 use Rattle.wy_subtype.specs.Valued.{HasDatum, AreValued}
 use Rattle.wy_subtype_parts.specs.Items.{with_items, elements, IsItem}
 use Rattle.wy_subtype.proofs.ValuedLemmas.{any_in-valued, valued_have}

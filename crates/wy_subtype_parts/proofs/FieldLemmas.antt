@@ -8,24 +8,24 @@ use Rattle.wy_lemmas.proofs.Lists.{bytes_self}
 use Rattle.wy_subtype.specs.wy_value.Datum.{Datum, Fields, no_fields, field}
 use Rattle.wy_subtype.specs.wy_value.Datum as datum
 use Rattle.wy_subtype.specs.wy_value.Values.{names_of}
-use Rattle.wy_types.specs.declared.conjuncts.Signed.{Signed}
-use Rattle.wy_types.specs.declared.conjuncts.Part.{Part}
-use Rattle.wy_types.specs.declared.conjuncts.Atom.{Atom}
-use Rattle.wy_types.specs.declared.conjuncts.Atom.TheVariants as atom
-use Rattle.wy_types.specs.declared.conjuncts.Conjunct.{Conjunct}
-use Rattle.wy_types.specs.declared.table.Table.{Table}
-use Rattle.wy_types.specs.Shape.{RecordShape, part_in, fields_in, atom_in, none_in, conjunct_in, any_in}
-use Rattle.wy_types.specs.Claims.{EachOf}
-use Rattle.wy_types.specs.Membership.{shape_of, field_readers, member}
-use Rattle.wy_types.specs.NodeLaws.{bytes_are, same_term_is}
-use Rattle.wy_types.specs.Ranked.{IsRanked}
-use Rattle.wy_types.specs.Conjuncts.{same_term, dnf_part}
-use Rattle.wy_types.specs.Asks.{HasValue, names_only, ways_from}
-use Rattle.wy_types.specs.Same.{united_conjuncts}
-use Rattle.wy_types.proofs.OnceLemmas.{any_in-united_conjuncts}
-use Rattle.wy_types.proofs.RankedLemmas.{has_laws}
-use Rattle.wy_types.proofs.TermLemmas.{any_in-dnf_part}
-use Rattle.wy_types.proofs.AskLemmas.{some_fields, ways_from-in, laws_of, name_bound, letters, length-letters, bytes_differ, fresh_name, names_only-in, some_fields-append}
+use Rattle.wy_subtype.specs.wy_types.declared.conjuncts.Signed.{Signed}
+use Rattle.wy_subtype.specs.wy_types.declared.conjuncts.Part.{Part}
+use Rattle.wy_subtype.specs.wy_types.declared.conjuncts.Atom.{Atom}
+use Rattle.wy_subtype.specs.wy_types.declared.conjuncts.Atom.TheVariants as atom
+use Rattle.wy_subtype.specs.wy_types.declared.conjuncts.Conjunct.{Conjunct}
+use Rattle.wy_subtype.specs.wy_types.declared.table.Table.{Table}
+use Rattle.wy_subtype.specs.wy_types.Shape.{RecordShape, part_in, fields_in, atom_in, none_in, conjunct_in, any_in}
+use Rattle.wy_subtype.specs.wy_types.Claims.{EachOf}
+use Rattle.wy_subtype.specs.wy_types.Membership.{shape_of, field_readers, member}
+use Rattle.wy_subtype.specs.wy_types.NodeLaws.{bytes_are, same_term_is}
+use Rattle.wy_subtype.specs.wy_types.Ranked.{IsRanked}
+use Rattle.wy_subtype.specs.wy_types.Conjuncts.{same_term, dnf_part}
+use Rattle.wy_subtype.specs.wy_types.Asks.{HasValue, names_only, ways_from}
+use Rattle.wy_subtype.specs.wy_types.Same.{united_conjuncts}
+use Rattle.wy_subtype.proofs.wy_types_proofs.OnceLemmas.{any_in-united_conjuncts}
+use Rattle.wy_subtype.proofs.wy_types_proofs.RankedLemmas.{has_laws}
+use Rattle.wy_subtype.proofs.wy_types_proofs.TermLemmas.{any_in-dnf_part}
+use Rattle.wy_subtype.proofs.wy_types_proofs.AskLemmas.{some_fields, ways_from-in, laws_of, name_bound, letters, length-letters, bytes_differ, fresh_name, names_only-in, some_fields-append}
 use Rattle.wy_subtype.specs.Valued.{HasDatum, ways_of, all_ways, IsInhabited, AreInhabited}
 use Rattle.wy_subtype_parts.specs.Fields.{value_at, has_value_at, has_field, atom_has, all_have, with_value, values_at}
 

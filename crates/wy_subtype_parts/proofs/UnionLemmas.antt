@@ -3,17 +3,17 @@ use Rattle.std.proofs.Common.{◌≡◌, ◌↔◌, ◌∙◌, ℕ, List, [], tr
 use Rattle.wy_subtype.specs.wy_value.Datum.{Datum, Data}
 use Rattle.wy_subtype.specs.wy_value.Datum as datum
 use Rattle.wy_core.specs.Types.{Ty, NormalTy}
-use Rattle.wy_types.specs.declared.conjuncts.Conjunct.{Conjunct}
-use Rattle.wy_types.specs.declared.question.Question.{Question}
-use Rattle.wy_types.specs.Membership as terms
-use Rattle.wy_types.specs.Membership.{member}
-use Rattle.wy_types.specs.Names.{Declared, Up, shape_of, is_in_normal}
-use Rattle.wy_types.specs.Questions.{first_part, numbered, IsWideAbout}
-use Rattle.wy_types.specs.Ranked.{IsRanked}
-use Rattle.wy_types.specs.Reading.{ty_at, conjuncts_at}
-use Rattle.wy_types.specs.Shape.{any_in}
-use Rattle.wy_types.proofs.RankedLemmas.{has_laws}
-use Rattle.wy_types.proofs.TermLemmas.{any_in-dnf_part}
+use Rattle.wy_subtype.specs.wy_types.declared.conjuncts.Conjunct.{Conjunct}
+use Rattle.wy_subtype.specs.wy_types.declared.question.Question.{Question}
+use Rattle.wy_subtype.specs.wy_types.Membership as terms
+use Rattle.wy_subtype.specs.wy_types.Membership.{member}
+use Rattle.wy_subtype.specs.wy_types.Names.{Declared, Up, shape_of, is_in_normal}
+use Rattle.wy_subtype.specs.wy_types.Questions.{first_part, numbered, IsWideAbout}
+use Rattle.wy_subtype.specs.wy_types.Ranked.{IsRanked}
+use Rattle.wy_subtype.specs.wy_types.Reading.{ty_at, conjuncts_at}
+use Rattle.wy_subtype.specs.wy_types.Shape.{any_in}
+use Rattle.wy_subtype.proofs.wy_types_proofs.RankedLemmas.{has_laws}
+use Rattle.wy_subtype.proofs.wy_types_proofs.TermLemmas.{any_in-dnf_part}
 use Rattle.wy_subtype.specs.Valued.{AreValued}
 use Rattle.wy_subtype_parts.specs.Norms.{all_of, IsNorm}
 use Rattle.wy_subtype_parts.specs.Items.{narrow_elements, elements, IsElements, IsWideUnion, IsWideItems, IsWideElement, IsItemIn}

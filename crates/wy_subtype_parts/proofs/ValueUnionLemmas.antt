@@ -3,17 +3,17 @@ use Rattle.std.proofs.Common.{◌≡◌, ◌↔◌, ◌∙◌, ℕ, List, [], �
 use Rattle.wy_subtype.specs.wy_value.Datum.{Datum, Fields}
 use Rattle.wy_subtype.specs.wy_value.Datum as datum
 use Rattle.wy_core.specs.Types.{Ty, NormalTy}
-use Rattle.wy_types.specs.declared.conjuncts.Part.{Part}
-use Rattle.wy_types.specs.declared.conjuncts.Conjunct.{Conjunct}
-use Rattle.wy_types.specs.declared.question.Question.{Question}
-use Rattle.wy_types.specs.declared.table.Table.{Table}
-use Rattle.wy_types.specs.Membership as terms
-use Rattle.wy_types.specs.Membership.{member}
-use Rattle.wy_types.specs.Names.{Declared, Up, shape_of, is_in_normal}
-use Rattle.wy_types.specs.Questions.{numbered, IsWideAbout}
-use Rattle.wy_types.specs.Ranked.{IsRanked}
-use Rattle.wy_types.specs.Reading.{ty_at, conjuncts_at}
-use Rattle.wy_types.specs.Shape.{any_in}
+use Rattle.wy_subtype.specs.wy_types.declared.conjuncts.Part.{Part}
+use Rattle.wy_subtype.specs.wy_types.declared.conjuncts.Conjunct.{Conjunct}
+use Rattle.wy_subtype.specs.wy_types.declared.question.Question.{Question}
+use Rattle.wy_subtype.specs.wy_types.declared.table.Table.{Table}
+use Rattle.wy_subtype.specs.wy_types.Membership as terms
+use Rattle.wy_subtype.specs.wy_types.Membership.{member}
+use Rattle.wy_subtype.specs.wy_types.Names.{Declared, Up, shape_of, is_in_normal}
+use Rattle.wy_subtype.specs.wy_types.Questions.{numbered, IsWideAbout}
+use Rattle.wy_subtype.specs.wy_types.Ranked.{IsRanked}
+use Rattle.wy_subtype.specs.wy_types.Reading.{ty_at, conjuncts_at}
+use Rattle.wy_subtype.specs.wy_types.Shape.{any_in}
 use Rattle.wy_subtype.specs.declared.valued.Inhabited.{Inhabited}
 use Rattle.wy_subtype.specs.Valued.{AreThose, AreInhabited, all_ways, IsInhabited}
 use Rattle.wy_subtype.proofs.ValuedLemmas.{any_in-valued, valued_one, valued_have}

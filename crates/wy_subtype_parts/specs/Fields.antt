@@ -4,17 +4,17 @@ use Rattle.std.specs.Str.{bytes_eq}
 use Rattle.wy_subtype.specs.wy_value.Datum.{Datum, Fields, no_fields, field}
 use Rattle.wy_subtype.specs.wy_value.Datum as datum
 use Rattle.wy_core.specs.Types.{Ty, NormalTy}
-use Rattle.wy_types.specs.declared.conjuncts.Part.{Part}
-use Rattle.wy_types.specs.declared.conjuncts.Signed.{Signed}
-use Rattle.wy_types.specs.declared.conjuncts.Atom.{Atom}
-use Rattle.wy_types.specs.declared.conjuncts.Atom.TheVariants as atom
-use Rattle.wy_types.specs.declared.conjuncts.Conjunct.{Conjunct}
-use Rattle.wy_types.specs.declared.table.Table.{Table}
-use Rattle.wy_types.specs.Same.{united_conjuncts}
-use Rattle.wy_types.specs.Conjuncts.{same_term, dnf_part, narrow_part}
-use Rattle.wy_types.specs.Names.{Declared, Up}
-use Rattle.wy_types.specs.Reading.{ty_at, conjuncts_at}
-use Rattle.wy_types.specs.Questions.{numbered, IsWideAbout}
+use Rattle.wy_subtype.specs.wy_types.declared.conjuncts.Part.{Part}
+use Rattle.wy_subtype.specs.wy_types.declared.conjuncts.Signed.{Signed}
+use Rattle.wy_subtype.specs.wy_types.declared.conjuncts.Atom.{Atom}
+use Rattle.wy_subtype.specs.wy_types.declared.conjuncts.Atom.TheVariants as atom
+use Rattle.wy_subtype.specs.wy_types.declared.conjuncts.Conjunct.{Conjunct}
+use Rattle.wy_subtype.specs.wy_types.declared.table.Table.{Table}
+use Rattle.wy_subtype.specs.wy_types.Same.{united_conjuncts}
+use Rattle.wy_subtype.specs.wy_types.Conjuncts.{same_term, dnf_part, narrow_part}
+use Rattle.wy_subtype.specs.wy_types.Names.{Declared, Up}
+use Rattle.wy_subtype.specs.wy_types.Reading.{ty_at, conjuncts_at}
+use Rattle.wy_subtype.specs.wy_types.Questions.{numbered, IsWideAbout}
 use Rattle.wy_subtype.specs.declared.valued.Inhabited.{Inhabited}
 use Rattle.wy_subtype.specs.Valued.{AreThose}
 use Rattle.wy_subtype_parts.specs.Norms.{all_of, IsNorm}

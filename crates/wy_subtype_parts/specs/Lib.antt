@@ -6,5 +6,5 @@ pub mod updates
 -- passed on to the crates above
 pub use Rattle.wy_core.specs as wy_core
 pub use Rattle.wy_subtype.specs as wy_subtype
-pub use Rattle.wy_types.specs as wy_types
+pub use Rattle.wy_subtype.specs.wy_types as wy_types
 pub use Rattle.wy_subtype.specs.wy_value as wy_value

@@ -1,12 +1,12 @@
 -- The conjuncts of a type that have a value, as a type.
 use Rattle.std.specs.Prelude.{◌≡◌, ℕ, List}
 use Rattle.wy_core.specs.Types.{Ty, NormalTy}
-use Rattle.wy_types.specs.declared.conjuncts.Conjunct.{Conjunct}
-use Rattle.wy_types.specs.declared.question.Question.{Question}
-use Rattle.wy_types.specs.Conjuncts.{dnf_part}
-use Rattle.wy_types.specs.Names.{Declared}
-use Rattle.wy_types.specs.Reading.{ty_at, conjuncts_at}
-use Rattle.wy_types.specs.Questions.{numbered, first_part}
+use Rattle.wy_subtype.specs.wy_types.declared.conjuncts.Conjunct.{Conjunct}
+use Rattle.wy_subtype.specs.wy_types.declared.question.Question.{Question}
+use Rattle.wy_subtype.specs.wy_types.Conjuncts.{dnf_part}
+use Rattle.wy_subtype.specs.wy_types.Names.{Declared}
+use Rattle.wy_subtype.specs.wy_types.Reading.{ty_at, conjuncts_at}
+use Rattle.wy_subtype.specs.wy_types.Questions.{numbered, first_part}
 use Rattle.wy_subtype.specs.Valued.{AreValued}
 
 -- the conjuncts of what is in the first type of a question

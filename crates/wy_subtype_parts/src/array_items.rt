@@ -1,23 +1,24 @@
 //! The items of arrays.
 ghost use Rattle.std.specs.Prelude.{◌≡◌, ◌↔◌, [], true, IfOk, OnOk};
-ghost use Rattle.wy_canon.specs.Width.{Exactly};
+ghost use Rattle.wy_subtype.specs.wy_canon.Width.{Exactly};
 ghost use Rattle.wy_core.specs.CoreSeen.{seen_ty};
 ghost use Rattle.wy_subtype_parts.specs.Items as items;
 ghost use Rattle.wy_subtype_parts.specs.Items.{IsElement, IsElements, IsItemIn, IsWideElement, IsWideItems};
 ghost use Rattle.wy_subtype.specs.Known.{WideOnly};
-ghost use Rattle.wy_types.specs.Names.{Up, types_of};
-ghost use Rattle.wy_types.specs.Questions.{IsOver, IsWideAbout};
-ghost use Rattle.wy_types.specs.Recursion.{RecurThroughParts};
+ghost use Rattle.wy_subtype.specs.wy_types.Names.{Up, types_of};
+ghost use Rattle.wy_subtype.specs.wy_types.Questions.{IsOver, IsWideAbout};
+ghost use Rattle.wy_subtype.specs.wy_types.Recursion.{RecurThroughParts};
 ghost use Rattle.wy_subtype.specs.wy_value.Datum.{Datum};
 
 use crate::asking::{first_part, normal_type};
 use crate::norms::norm_in;
 use std::alloc::Global;
-use wy_canon::{TypeFault, conjuncts_at, dnf_part, united_conjuncts};
 use wy_core as tree;
 use wy_items::Items;
-use wy_subtype::valued_conjuncts;
-use wy_types::{Atom, Conjunct, Names, Question, Table};
+use wy_subtype::{
+    Atom, Conjunct, Names, Question, Table, TypeFault, conjuncts_at, dnf_part, united_conjuncts,
+    valued_conjuncts,
+};
 
 // The list, and the conjuncts of the part of an array.
 fn with_items(

@@ -2,14 +2,13 @@
 ghost use Rattle.std.specs.Prelude.{◌≡◌, IfOk};
 ghost use Rattle.wy_core.specs.CoreSeen.{seen_ty};
 ghost use Rattle.wy_core.specs.Types.{NormalTy};
-ghost use Rattle.wy_types.specs.Questions as questions;
-ghost use Rattle.wy_types.specs.SeenTypes.{seen_conjuncts, seen_kind};
+ghost use Rattle.wy_subtype.specs.wy_types.Questions as questions;
+ghost use Rattle.wy_subtype.specs.wy_types.SeenTypes.{seen_conjuncts, seen_kind};
 
 use std::alloc::{AllocError, Global};
-use wy_canon::with_sides;
 use wy_core as tree;
 use wy_items::Items;
-use wy_types::{Question, Signed};
+use wy_subtype::{Question, Signed, with_sides};
 
 /// What is in the first type of the question.
 pub fn first_part(alloc: Global, question: &Question) -> Result<Items<Signed<u32>>, AllocError>

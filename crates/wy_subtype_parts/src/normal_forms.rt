@@ -2,19 +2,17 @@
 ghost use Rattle.std.specs.Prelude.{◌≡◌, IfOk, OnOk};
 ghost use Rattle.wy_core.specs.CoreSeen.{seen_ty};
 ghost use Rattle.wy_subtype.specs.Known.{WideOnly};
-ghost use Rattle.wy_types.specs.Names.{Up, types_of, shape_of, is_in_normal};
-ghost use Rattle.wy_types.specs.Questions.{IsOver, IsWideAbout, normal_of};
-ghost use Rattle.wy_types.specs.Recursion.{RecurThroughParts};
-ghost use Rattle.wy_types.specs.SeenTypes.{seen_conjuncts};
+ghost use Rattle.wy_subtype.specs.wy_types.Names.{Up, types_of, shape_of, is_in_normal};
+ghost use Rattle.wy_subtype.specs.wy_types.Questions.{IsOver, IsWideAbout, normal_of};
+ghost use Rattle.wy_subtype.specs.wy_types.Recursion.{RecurThroughParts};
+ghost use Rattle.wy_subtype.specs.wy_types.SeenTypes.{seen_conjuncts};
 ghost use Rattle.wy_subtype.specs.wy_value.Datum.{Datum};
 
 use crate::asking::first_part;
 use std::alloc::Global;
-use wy_canon::{TypeFault, conjuncts_at};
 use wy_core as tree;
 use wy_items::Items;
-use wy_subtype::narrow_conjuncts;
-use wy_types::{Names, Question};
+use wy_subtype::{Names, Question, TypeFault, conjuncts_at, narrow_conjuncts};
 
 /// The conjuncts of what is in the type, by its upward reading, in order. The union of them is that
 /// reading. Each node stands where the type does. Wide exactly where the question about the type is.

@@ -3,17 +3,15 @@ ghost use Rattle.std.specs.Prelude.{◌≡◌, IfOk, OnOk};
 ghost use Rattle.wy_core.specs.CoreSeen.{seen_ty};
 ghost use Rattle.wy_subtype_parts.specs.Norms.{IsNorm};
 ghost use Rattle.wy_subtype.specs.Known.{WideOnly};
-ghost use Rattle.wy_types.specs.Names.{Up, types_of};
-ghost use Rattle.wy_types.specs.Questions.{IsOver, IsWideAbout};
-ghost use Rattle.wy_types.specs.Recursion.{RecurThroughParts};
+ghost use Rattle.wy_subtype.specs.wy_types.Names.{Up, types_of};
+ghost use Rattle.wy_subtype.specs.wy_types.Questions.{IsOver, IsWideAbout};
+ghost use Rattle.wy_subtype.specs.wy_types.Recursion.{RecurThroughParts};
 ghost use Rattle.wy_subtype.specs.wy_value.Datum.{Datum};
 
 use crate::asking::{first_part, normal_type};
 use std::alloc::Global;
-use wy_canon::{TypeFault, conjuncts_at};
 use wy_core as tree;
-use wy_subtype::valued_conjuncts;
-use wy_types::{Names, Question};
+use wy_subtype::{Names, Question, TypeFault, conjuncts_at, valued_conjuncts};
 
 /// The conjuncts of the type that have a value, by its upward reading, as a normal type: the same
 /// set. Each node stands where the type does. Wide exactly where the question about the type is. The

@@ -1,24 +1,25 @@
 //! The values at a field of records.
 ghost use Rattle.std.specs.Prelude.{◌≡◌, ◌↔◌, [], true, false, IfOk, IfSome, OnOk, Some, None};
-ghost use Rattle.wy_canon.specs.Width.{Exactly};
+ghost use Rattle.wy_subtype.specs.wy_canon.Width.{Exactly};
 ghost use Rattle.wy_core.specs.CoreSeen.{seen_ty};
 ghost use Rattle.wy_subtype_parts.specs.Fields as at_field;
 ghost use Rattle.wy_subtype_parts.specs.Fields.{AllHave, HasNoUnion, IsField, IsUnion, IsValueIn, IsWideField, IsWideValues, SomeLacks};
 ghost use Rattle.wy_subtype.specs.Known.{WideOnly};
-ghost use Rattle.wy_types.specs.Names.{Up, types_of};
-ghost use Rattle.wy_types.specs.Questions.{IsOver};
-ghost use Rattle.wy_types.specs.Recursion.{RecurThroughParts};
+ghost use Rattle.wy_subtype.specs.wy_types.Names.{Up, types_of};
+ghost use Rattle.wy_subtype.specs.wy_types.Questions.{IsOver};
+ghost use Rattle.wy_subtype.specs.wy_types.Recursion.{RecurThroughParts};
 ghost use Rattle.wy_subtype.specs.wy_value.Datum.{Datum};
 
 use crate::asking::{first_part, normal_type};
 use crate::norms::norm_in;
 use std::alloc::Global;
-use wy_canon::{TypeFault, conjuncts_at, dnf_part, united_conjuncts};
 use wy_core as tree;
 use wy_data::Name;
 use wy_items::Items;
-use wy_subtype::inhabited_parts;
-use wy_types::{Atom, Conjunct, Names, Part, Question, Table};
+use wy_subtype::{
+    Atom, Conjunct, Names, Part, Question, Table, TypeFault, conjuncts_at, dnf_part,
+    inhabited_parts, united_conjuncts,
+};
 
 // Whether one of the fields has the name.
 fn has_field(name: &Name, fields: &[(Name, Part<u32>)]) -> bool

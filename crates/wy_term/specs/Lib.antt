@@ -16,5 +16,5 @@ pub mod FoldingView
 pub mod ReplacingView
 pub mod Copying
 -- passed on to the crates above
-pub use Rattle.wy_data.specs as wy_data
+pub use Rattle.wy_value.specs.wy_data as wy_data
 pub use Rattle.wy_value.specs as wy_value

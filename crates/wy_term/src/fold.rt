@@ -11,7 +11,7 @@ use crate::memory::NoMemory;
 use crate::node::{Kind, Node};
 use crate::terms::Terms;
 use std::alloc::Global;
-use wy_data::Name;
+use wy_value::Name;
 
 /// What a node is folded to.
 #[derive(Drop)]

@@ -21,3 +21,4 @@ pub use law::folding_keeps_meaning;
 pub use memory::NoMemory;
 pub use node::{Kind, Node, Quantifier};
 pub use terms::{Mark, Terms};
+pub use wy_value::{Name, scan};

@@ -1,5 +1,5 @@
 //! The forms of terms and formulas.
-use wy_data::Name;
+use wy_value::Name;
 
 /// A term or formula whose parts are given by their numbers in a list of terms. An Int term stands for a whole number,
 /// a Val term for a datum, and a formula for a truth value. The number in a name is from 0 to 2^127 - 1.

@@ -5,7 +5,7 @@ ghost use Rattle.wy_term.specs.Nodes.{of, plain, plain_kind};
 
 use crate::node::{Kind, Node, Quantifier};
 use std::alloc::{AllocError, Global};
-use wy_data::Name;
+use wy_value::Name;
 
 // The numbers in the fields of a record.
 fn field_parts(alloc: Global, fields: &[(Name, u32)]) -> Result<Vec<u32>, AllocError>

@@ -22,3 +22,4 @@ pub use names::{Taken, new_number, none_taken, take_numbers};
 pub use parts::{parts_of, with_parts};
 pub use substitution::subst;
 pub use within::made_of;
+pub use wy_term::{Cond, Kind, Name, NoMemory, Node, Terms};

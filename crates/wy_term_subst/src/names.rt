@@ -7,8 +7,7 @@ ghost use Rattle.wy_term_subst.specs.View.{any_at, symbol_at, noted_numbers, Cou
 
 use std::alloc::Global;
 use std::collections::HashSet;
-use wy_data::Name;
-use wy_term::{NoMemory, Node, Terms};
+use wy_term::{Name, NoMemory, Node, Terms};
 
 /// The greatest number that a name can have.
 const GREATEST: u128 = (1 << 127) - 1;

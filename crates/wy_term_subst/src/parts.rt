@@ -5,8 +5,7 @@ ghost use Rattle.wy_term.specs.Nodes.{of, plain, plain_kind};
 ghost use Rattle.wy_term_subst.specs.Substitution.{renumbered};
 
 use std::alloc::{AllocError, Global};
-use wy_data::Name;
-use wy_term::{Kind, Node, Quantifier};
+use wy_term::{Kind, Name, Node, Quantifier};
 
 // The numbers in the fields of a record.
 fn field_parts(alloc: Global, fields: &[(Name, u32)]) -> Result<Vec<u32>, AllocError>

@@ -15,8 +15,7 @@ use crate::parts::{parts_of, with_parts};
 use crate::scope::{Scope, found, is_hidden, with_pair};
 use std::alloc::Global;
 use std::collections::HashMap;
-use wy_data::Name;
-use wy_term::{NoMemory, Node, Terms};
+use wy_term::{Name, NoMemory, Node, Terms};
 
 /// A term that is gone into: so many of its parts are made already. A quantifier binds a name with this number.
 #[derive(Drop)]

@@ -6,3 +6,5 @@
 pub mod reread;
 pub mod show;
 pub mod spell;
+
+pub use wy_term::{NoMemory, Terms};

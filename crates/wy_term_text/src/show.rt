@@ -6,8 +6,7 @@ ghost use Rattle.wy_term_text.specs.show.Text.{separated, labelled, applied, bou
 ghost use Rattle.wy_term_text.specs.show.TextView.{piece_text, all_text, stack_text, IsPieceBelow};
 
 use std::alloc::Global;
-use wy_data::Name;
-use wy_term::{Kind, NoMemory, Node, Quantifier, Terms};
+use wy_term::{Kind, Name, NoMemory, Node, Quantifier, Terms};
 
 /// A part of a text that is still to be written.
 #[derive(Drop)]

@@ -1,5 +1,5 @@
 //! Conjuncts over terms of any kind: a term is a type, or the number of one in a table.
-use wy_data::Name;
+use wy_core::Name;
 use wy_items::Items;
 
 /// The values of the positive atom that are in none of the negative ones.

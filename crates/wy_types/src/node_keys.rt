@@ -8,7 +8,7 @@ use crate::conjuncts::Conjunct;
 use crate::sameness::same_conjuncts;
 use crate::table::Node;
 use std::hash::{Hash, Hasher};
-use wy_data::Name;
+use wy_core::Name;
 
 // Which form the node has, in the order of the enum.
 fn form_of(node: &Node) -> u32

@@ -5,7 +5,7 @@ ghost use Rattle.wy_types.specs.Conjuncts.{same_term};
 ghost use Rattle.wy_types.specs.Same as same;
 
 use crate::conjuncts::{Atom, Conjunct, Part, Signed};
-use wy_data::Name;
+use wy_core::Name;
 
 fn agree(a: bool, b: bool) -> bool
     ensures value { result ≡ signed_as a b }

@@ -1,7 +1,7 @@
 //! Terms of types by number: a table in which equal terms have one number.
 use crate::conjuncts::Conjunct;
 use crate::numbering::Numbering;
-use wy_data::Name;
+use wy_core::Name;
 use wy_items::Items;
 
 /// What a term is, its parts as numbers of terms.

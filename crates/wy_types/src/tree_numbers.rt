@@ -9,7 +9,7 @@ use crate::numbering::Numbering;
 use crate::table::Node;
 use std::alloc::{AllocError, Global};
 use wy_core as tree;
-use wy_data::Name;
+use wy_core::Name;
 use wy_items::Items;
 
 /// The number of a type, whose terms are put into the numbering where they aren't there, in time

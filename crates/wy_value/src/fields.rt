@@ -7,7 +7,7 @@ use std::alloc::{AllocError, Global};
 use std::collections::BTreeMap;
 use std::marker::Model;
 use wy_data::Name;
-use wy_items::Items;
+use wy_reading::Items;
 
 /// Fields by rising names, no name twice. A new one takes its place in logarithmic time.
 #[derive(Drop)]

@@ -26,3 +26,5 @@ pub use printer::show;
 pub use shapes::Shapes;
 pub use text::read_values;
 pub use value::Value;
+pub use wy_data::{Name, scan};
+pub use wy_reading::{Boxed, Items};

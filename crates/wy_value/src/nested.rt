@@ -9,8 +9,7 @@ use crate::fields::FieldMap;
 use crate::flat::{flat, mark, new_name, spaces};
 use crate::value::Value;
 use std::alloc::Global;
-use wy_items::Items;
-use wy_reading::{Stop, next_is, one};
+use wy_reading::{Items, Stop, next_is, one};
 
 /// A value with brackets nested at most `depth` deep.
 #[cycle(nested)]

@@ -14,8 +14,7 @@ use crate::flat::mark;
 use crate::nested::elems;
 use crate::value::Value;
 use std::alloc::{AllocError, Global};
-use wy_items::Items;
-use wy_reading::{Stop, one};
+use wy_reading::{Items, Stop, one};
 
 /// The values that an argument text spells, as `(1, [true, null], {x: -5})`. Between tokens spaces may
 /// stand, but none before the first and behind the last bracket; numbers may have leading zeros, and

@@ -3,7 +3,7 @@ ghost use Rattle.std.specs.Prelude.{◌≡◌, IfOk, IsTrue, ◌↔◌};
 
 use std::alloc::{AllocError, Global};
 use wy_data::Name;
-use wy_items::Items;
+use wy_reading::Items;
 
 /// What a program computes with. The fields of a record stand by rising bytes of their names.
 #[cycle(value)]

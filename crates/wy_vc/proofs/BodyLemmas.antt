@@ -21,12 +21,12 @@ use Rattle.wy_vc_operations.specs.Growing.{Kept}
 use Rattle.wy_vc_body.specs.declared.here.Here.{Here}
 use Rattle.wy_vc_body.specs.Types.{types_in}
 use Rattle.wy_vc_body.proofs.NumberedLemmas.{numbered_types}
-use Rattle.wy_vc_exprs.specs.Slots.{AreSlots, slots_of}
-use Rattle.wy_vc_exprs.specs.State.{Steps, hyps_of, owed_of}
-use Rattle.wy_vc_exprs.specs.declared.walk.Walk.{Walk}
-use Rattle.wy_vc_exprs.proofs.NumberedLemmas.{kept_then}
-use Rattle.wy_vc_exprs.proofs.SlotLemmas.{slots_kept}
-use Rattle.wy_vc_exprs.proofs.StateLemmas.{steps_as, steps_noded}
+use Rattle.wy_vc_body.specs.wy_vc_exprs.Slots.{AreSlots, slots_of}
+use Rattle.wy_vc_body.specs.wy_vc_exprs.State.{Steps, hyps_of, owed_of}
+use Rattle.wy_vc_body.specs.wy_vc_exprs.declared.walk.Walk.{Walk}
+use Rattle.wy_vc_body.proofs.wy_vc_exprs_proofs.NumberedLemmas.{kept_then}
+use Rattle.wy_vc_body.proofs.wy_vc_exprs_proofs.SlotLemmas.{slots_kept}
+use Rattle.wy_vc_body.proofs.wy_vc_exprs_proofs.StateLemmas.{steps_as, steps_noded}
 use Rattle.wy_vc_body.specs.Paths.{spot_of}
 use Rattle.wy_vc_body.specs.Frames.{IsFrame, body_at, routine_of}
 use Rattle.wy_vc_body.specs.Frames as frames

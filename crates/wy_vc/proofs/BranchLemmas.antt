@@ -17,15 +17,15 @@ use Rattle.wy_vc_spec.specs.Variables.{Vars}
 use Rattle.wy_vc_operations.proofs.GrowingLemmas.{here_kept}
 use Rattle.wy_vc_operations.specs.Growing.{Kept, AreBelow, Makes}
 use Rattle.wy_vc_body.specs.declared.here.Here.{Here}
-use Rattle.wy_vc_terms.specs.declared.maker.Maker.{Maker}
-use Rattle.wy_vc_exprs.specs.Numbered.{trees_of}
-use Rattle.wy_vc_exprs.specs.Slots.{AreSlots, slots_of}
-use Rattle.wy_vc_exprs.specs.State.{IsGoal, IsSound, Steps, Walks, hyps_of, owed_of, passed_by, seen_goal}
-use Rattle.wy_vc_exprs.specs.declared.goal.Goal.{Goal}
-use Rattle.wy_vc_exprs.specs.declared.walk.Walk.{Walk}
-use Rattle.wy_vc_exprs.proofs.NumberedLemmas.{below_on, kept_then, trees_kept}
-use Rattle.wy_vc_exprs.proofs.SlotLemmas.{slots_kept}
-use Rattle.wy_vc_exprs.proofs.StateLemmas.{steps_as, steps_cut, steps_on}
+use Rattle.wy_vc_body.specs.wy_vc_terms.declared.maker.Maker.{Maker}
+use Rattle.wy_vc_body.specs.wy_vc_exprs.Numbered.{trees_of}
+use Rattle.wy_vc_body.specs.wy_vc_exprs.Slots.{AreSlots, slots_of}
+use Rattle.wy_vc_body.specs.wy_vc_exprs.State.{IsGoal, IsSound, Steps, Walks, hyps_of, owed_of, passed_by, seen_goal}
+use Rattle.wy_vc_body.specs.wy_vc_exprs.declared.goal.Goal.{Goal}
+use Rattle.wy_vc_body.specs.wy_vc_exprs.declared.walk.Walk.{Walk}
+use Rattle.wy_vc_body.proofs.wy_vc_exprs_proofs.NumberedLemmas.{below_on, kept_then, trees_kept}
+use Rattle.wy_vc_body.proofs.wy_vc_exprs_proofs.SlotLemmas.{slots_kept}
+use Rattle.wy_vc_body.proofs.wy_vc_exprs_proofs.StateLemmas.{steps_as, steps_cut, steps_on}
 use Rattle.wy_vc_body.proofs.PathLemmas.{paths_on}
 use Rattle.wy_vc_body.specs.declared.paths.Path.{Path}
 use Rattle.wy_vc_body.specs.Paths.{ArePaths, IsPath, Meets, seen_end, seen_ends, spot_of}

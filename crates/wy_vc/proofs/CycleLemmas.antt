@@ -14,11 +14,11 @@ use Rattle.wy_vc_spec.specs.Sizes.{exprs_in, exprs_in_block, exprs_in_list, expr
 use Rattle.wy_vc_spec.specs.Spots.{Spot, Flow, as_list, goes}
 use Rattle.wy_vc_spec.specs.Statements as spec
 use Rattle.wy_vc_body.specs.declared.here.Here.{Here}
-use Rattle.wy_vc_exprs.specs.Numbered.{trees_of}
-use Rattle.wy_vc_exprs.specs.Slots.{AreSlots, slots_of}
-use Rattle.wy_vc_exprs.specs.State.{IsSound, hyps_of, owed_of}
-use Rattle.wy_vc_exprs.specs.declared.walk.Walk.{Walk}
-use Rattle.wy_vc_exprs.proofs.ResultLemmas.{if_ok, on_ok}
+use Rattle.wy_vc_body.specs.wy_vc_exprs.Numbered.{trees_of}
+use Rattle.wy_vc_body.specs.wy_vc_exprs.Slots.{AreSlots, slots_of}
+use Rattle.wy_vc_body.specs.wy_vc_exprs.State.{IsSound, hyps_of, owed_of}
+use Rattle.wy_vc_body.specs.wy_vc_exprs.declared.walk.Walk.{Walk}
+use Rattle.wy_vc_body.proofs.wy_vc_exprs_proofs.ResultLemmas.{if_ok, on_ok}
 use Rattle.wy_vc_body.specs.declared.paths.Path.{Path}
 use Rattle.wy_vc_body.specs.Paths.{ArePaths, Meets, seen_ends, spot_of}
 use Rattle.wy_vc_body.specs.declared.frame.Frame.{Frame}

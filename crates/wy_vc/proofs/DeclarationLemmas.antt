@@ -16,9 +16,9 @@ use Rattle.wy_vc_spec.specs.Walks as walks
 use Rattle.wy_lemmas.proofs.Lists.{next_of}
 use Rattle.wy_vc_operations.proofs.GrowingLemmas.{kept_all}
 use Rattle.wy_vc_operations.specs.Growing.{Kept}
-use Rattle.wy_vc_exprs.specs.State.{IsSound, owed_of}
-use Rattle.wy_vc_exprs.specs.declared.walk.Walk.{Walk}
-use Rattle.wy_vc_exprs.proofs.NumberedLemmas.{kept_then}
+use Rattle.wy_vc_body.specs.wy_vc_exprs.State.{IsSound, owed_of}
+use Rattle.wy_vc_body.specs.wy_vc_exprs.declared.walk.Walk.{Walk}
+use Rattle.wy_vc_body.proofs.wy_vc_exprs_proofs.NumberedLemmas.{kept_then}
 use Rattle.wy_vc_tables.specs.program_names.Described.{IsCalled}
 use Rattle.wy_vc_tables.specs.declared.program_names.program.Called.{Called}
 use Rattle.wy_vc.specs.Entering.{Owes, OwesFirst}

@@ -8,12 +8,12 @@ use Rattle.wy_vc_spec.specs.Spots.{Spot, spot, as_list}
 use Rattle.wy_vc_spec.specs.Variables.{Vars}
 use Rattle.wy_vc_operations.specs.Growing.{Kept, AreBelow}
 use Rattle.wy_vc_body.specs.declared.here.Here.{Here}
-use Rattle.wy_vc_exprs.specs.Numbered.{trees_of}
-use Rattle.wy_vc_exprs.specs.Slots.{AreSlots, slots_of}
-use Rattle.wy_vc_exprs.specs.State.{IsSound}
-use Rattle.wy_vc_exprs.specs.declared.walk.Walk.{Walk}
-use Rattle.wy_vc_exprs.proofs.NumberedLemmas.{trees_kept}
-use Rattle.wy_vc_exprs.proofs.SlotLemmas.{slots_kept}
+use Rattle.wy_vc_body.specs.wy_vc_exprs.Numbered.{trees_of}
+use Rattle.wy_vc_body.specs.wy_vc_exprs.Slots.{AreSlots, slots_of}
+use Rattle.wy_vc_body.specs.wy_vc_exprs.State.{IsSound}
+use Rattle.wy_vc_body.specs.wy_vc_exprs.declared.walk.Walk.{Walk}
+use Rattle.wy_vc_body.proofs.wy_vc_exprs_proofs.NumberedLemmas.{trees_kept}
+use Rattle.wy_vc_body.proofs.wy_vc_exprs_proofs.SlotLemmas.{slots_kept}
 use Rattle.wy_vc_body.specs.declared.paths.Path.{Path}
 use Rattle.wy_vc_body.specs.Paths.{ArePaths, IsPath, IsEnd, seen_end, seen_ends, spot_of}
 use Rattle.wy_vc.specs.Flows.{IsEndOf, end_of}

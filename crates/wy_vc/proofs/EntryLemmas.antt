@@ -19,14 +19,14 @@ use Rattle.wy_vc_spec.specs.Values.{Setting, variable, word_at, word_if}
 use Rattle.wy_vc_spec.specs.Variables.{Vars, put, put_if}
 use Rattle.wy_vc_operations.specs.Growing.{Kept, Makes}
 use Rattle.wy_vc_body.specs.declared.here.Here.{Here}
-use Rattle.wy_vc_exprs.specs.Numbered.{trees_of}
-use Rattle.wy_vc_exprs.specs.Slots.{AreSlots, slots_of}
-use Rattle.wy_vc_exprs.specs.State.{IsSound, Steps, hyps_of, owed_of}
-use Rattle.wy_vc_exprs.specs.declared.walk.Walk.{Walk}
-use Rattle.wy_vc_exprs.proofs.NumberedLemmas.{kept_then}
-use Rattle.wy_vc_exprs.proofs.SlotLemmas.{slots_kept, slots_on, slots_put, are_put}
-use Rattle.wy_vc_exprs.proofs.StateLemmas.{steps_on, steps_as, steps_made, steps_none}
-use Rattle.wy_vc_exprs.proofs.GivenLemmas.{slots_put_if, are_put_if, output_typed}
+use Rattle.wy_vc_body.specs.wy_vc_exprs.Numbered.{trees_of}
+use Rattle.wy_vc_body.specs.wy_vc_exprs.Slots.{AreSlots, slots_of}
+use Rattle.wy_vc_body.specs.wy_vc_exprs.State.{IsSound, Steps, hyps_of, owed_of}
+use Rattle.wy_vc_body.specs.wy_vc_exprs.declared.walk.Walk.{Walk}
+use Rattle.wy_vc_body.proofs.wy_vc_exprs_proofs.NumberedLemmas.{kept_then}
+use Rattle.wy_vc_body.proofs.wy_vc_exprs_proofs.SlotLemmas.{slots_kept, slots_on, slots_put, are_put}
+use Rattle.wy_vc_body.proofs.wy_vc_exprs_proofs.StateLemmas.{steps_on, steps_as, steps_made, steps_none}
+use Rattle.wy_vc_body.proofs.wy_vc_exprs_proofs.GivenLemmas.{slots_put_if, are_put_if, output_typed}
 use Rattle.wy_vc_body.specs.Paths.{spot_of}
 use Rattle.wy_vc_body.specs.Loops.{Renews}
 use Rattle.wy_vc_body.proofs.LoopLemmas.{renews_on}

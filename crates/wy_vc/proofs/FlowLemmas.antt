@@ -15,11 +15,11 @@ use Rattle.wy_vc_spec.specs.Statements as spec
 use Rattle.wy_vc_operations.proofs.GrowingLemmas.{kept_all}
 use Rattle.wy_vc_operations.specs.Growing.{Kept, AreBelow}
 use Rattle.wy_vc_body.specs.declared.here.Here.{Here}
-use Rattle.wy_vc_exprs.specs.Slots.{AreSlots}
-use Rattle.wy_vc_exprs.specs.State.{IsGoal, IsSound, owed_of, seen_goal}
-use Rattle.wy_vc_exprs.specs.declared.goal.Goal.{Goal}
-use Rattle.wy_vc_exprs.specs.declared.walk.Walk.{Walk}
-use Rattle.wy_vc_exprs.proofs.NumberedLemmas.{kept_then}
+use Rattle.wy_vc_body.specs.wy_vc_exprs.Slots.{AreSlots}
+use Rattle.wy_vc_body.specs.wy_vc_exprs.State.{IsGoal, IsSound, owed_of, seen_goal}
+use Rattle.wy_vc_body.specs.wy_vc_exprs.declared.goal.Goal.{Goal}
+use Rattle.wy_vc_body.specs.wy_vc_exprs.declared.walk.Walk.{Walk}
+use Rattle.wy_vc_body.proofs.wy_vc_exprs_proofs.NumberedLemmas.{kept_then}
 use Rattle.wy_vc_body.proofs.PathLemmas.{paths_on}
 use Rattle.wy_vc_body.specs.declared.paths.Path.{Path}
 use Rattle.wy_vc_body.specs.Paths.{ArePaths, IsEnd, seen_ends, spot_of}

@@ -7,9 +7,9 @@ use Rattle.wy_vc_spec.specs.Owed.{Owed}
 use Rattle.wy_vc_spec.specs.Spots.{Flow}
 use Rattle.wy_vc_spec.specs.Statements as spec
 use Rattle.wy_vc_body.specs.declared.here.Here.{Here}
-use Rattle.wy_vc_exprs.specs.State.{Steps, owed_of}
-use Rattle.wy_vc_exprs.specs.declared.walk.Walk.{Walk}
-use Rattle.wy_vc_exprs.proofs.NumberedLemmas.{kept_then}
+use Rattle.wy_vc_body.specs.wy_vc_exprs.State.{Steps, owed_of}
+use Rattle.wy_vc_body.specs.wy_vc_exprs.declared.walk.Walk.{Walk}
+use Rattle.wy_vc_body.proofs.wy_vc_exprs_proofs.NumberedLemmas.{kept_then}
 use Rattle.wy_vc_body.specs.Paths.{IsEnd, Meets}
 use Rattle.wy_vc_body.specs.Going.{Went}
 use Rattle.wy_vc_body.specs.Loops.{Renews}

@@ -26,15 +26,15 @@ use Rattle.wy_vc_spec.specs.Walks as walks
 use Rattle.wy_vc_operations.proofs.GrowingLemmas.{kept_all}
 use Rattle.wy_vc_operations.specs.Growing.{Kept, AreBelow, Makes}
 use Rattle.wy_vc_body.specs.declared.here.Here.{Here}
-use Rattle.wy_vc_exprs.specs.Numbered.{trees_of}
-use Rattle.wy_vc_exprs.specs.Slots.{AreSlots, slots_of}
-use Rattle.wy_vc_exprs.specs.State.{IsGoal, IsSound, Steps, hyps_of, owed_of, seen_goal}
-use Rattle.wy_vc_exprs.specs.declared.goal.Goal.{Goal}
-use Rattle.wy_vc_exprs.specs.declared.walk.Walk.{Walk}
-use Rattle.wy_vc_exprs.proofs.NumberedLemmas.{kept_then}
-use Rattle.wy_vc_exprs.proofs.SlotLemmas.{slots_kept, slots_on, slots_put, are_put}
-use Rattle.wy_vc_exprs.proofs.StateLemmas.{steps_on, steps_as}
-use Rattle.wy_vc_exprs.proofs.GivenLemmas.{output_typed}
+use Rattle.wy_vc_body.specs.wy_vc_exprs.Numbered.{trees_of}
+use Rattle.wy_vc_body.specs.wy_vc_exprs.Slots.{AreSlots, slots_of}
+use Rattle.wy_vc_body.specs.wy_vc_exprs.State.{IsGoal, IsSound, Steps, hyps_of, owed_of, seen_goal}
+use Rattle.wy_vc_body.specs.wy_vc_exprs.declared.goal.Goal.{Goal}
+use Rattle.wy_vc_body.specs.wy_vc_exprs.declared.walk.Walk.{Walk}
+use Rattle.wy_vc_body.proofs.wy_vc_exprs_proofs.NumberedLemmas.{kept_then}
+use Rattle.wy_vc_body.proofs.wy_vc_exprs_proofs.SlotLemmas.{slots_kept, slots_on, slots_put, are_put}
+use Rattle.wy_vc_body.proofs.wy_vc_exprs_proofs.StateLemmas.{steps_on, steps_as}
+use Rattle.wy_vc_body.proofs.wy_vc_exprs_proofs.GivenLemmas.{output_typed}
 use Rattle.wy_vc_body.specs.Paths.{IsEnd}
 use Rattle.wy_vc_body.specs.Loops.{Renews}
 use Rattle.wy_vc.specs.Entering.{Enters, Owes}

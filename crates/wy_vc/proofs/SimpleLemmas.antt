@@ -17,17 +17,17 @@ use Rattle.wy_vc_spec.specs.Spots.{Spot, spot, Flow, goes, stops, mark}
 use Rattle.wy_vc_spec.specs.Statements as spec
 use Rattle.wy_vc_spec.specs.Values.{word_at}
 use Rattle.wy_vc_spec.specs.Variables.{Vars, put}
-use Rattle.wy_vc_exprs.specs.Walking.{walk_all_of, walk_of}
+use Rattle.wy_vc_body.specs.wy_vc_exprs.Walking.{walk_all_of, walk_of}
 use Rattle.wy_vc_operations.proofs.GrowingLemmas.{kept_all}
 use Rattle.wy_vc_operations.specs.Growing.{AreAt, AreBelow, Makes}
 use Rattle.wy_vc_body.specs.declared.here.Here.{Here}
-use Rattle.wy_vc_exprs.specs.Numbered.{trees_of}
-use Rattle.wy_vc_exprs.specs.Slots.{AreSlots, slots_of}
-use Rattle.wy_vc_exprs.specs.State.{IsSound, Steps, Walks, WalksAll, hyps_of, owed_of, passed_by}
-use Rattle.wy_vc_exprs.specs.declared.walk.Walk.{Walk}
-use Rattle.wy_vc_exprs.proofs.SlotLemmas.{are_put, slots_kept, slots_on, slots_put}
-use Rattle.wy_vc_exprs.proofs.StateLemmas.{owed_before, steps_as, steps_made, steps_on}
-use Rattle.wy_vc_exprs.proofs.WalkLemmas.{walks_many}
+use Rattle.wy_vc_body.specs.wy_vc_exprs.Numbered.{trees_of}
+use Rattle.wy_vc_body.specs.wy_vc_exprs.Slots.{AreSlots, slots_of}
+use Rattle.wy_vc_body.specs.wy_vc_exprs.State.{IsSound, Steps, Walks, WalksAll, hyps_of, owed_of, passed_by}
+use Rattle.wy_vc_body.specs.wy_vc_exprs.declared.walk.Walk.{Walk}
+use Rattle.wy_vc_body.proofs.wy_vc_exprs_proofs.SlotLemmas.{are_put, slots_kept, slots_on, slots_put}
+use Rattle.wy_vc_body.proofs.wy_vc_exprs_proofs.StateLemmas.{owed_before, steps_as, steps_made, steps_on}
+use Rattle.wy_vc_body.proofs.wy_vc_exprs_proofs.WalkLemmas.{walks_many}
 use Rattle.wy_vc_body.specs.declared.paths.Path.{Path}
 use Rattle.wy_vc_body.specs.Paths.{ArePaths, spot_of}
 use Rattle.wy_vc_body.specs.declared.frame.Frame.{Frame}

@@ -14,9 +14,9 @@ use Rattle.wy_vc_spec.specs.Numbered.{Node}
 use Rattle.wy_vc_spec.specs.Owed.{Owed}
 use Rattle.wy_vc_spec.specs.Values.{Setting, test_name}
 use Rattle.wy_vc_operations.specs.Growing.{AreBelow}
-use Rattle.wy_vc_exprs.specs.Numbered.{trees_of}
-use Rattle.wy_vc_exprs.specs.State.{IsGoal, seen_goal}
-use Rattle.wy_vc_exprs.specs.declared.goal.Goal.{Goal}
+use Rattle.wy_vc_body.specs.wy_vc_exprs.Numbered.{trees_of}
+use Rattle.wy_vc_body.specs.wy_vc_exprs.State.{IsGoal, seen_goal}
+use Rattle.wy_vc_body.specs.wy_vc_exprs.declared.goal.Goal.{Goal}
 use Rattle.wy_vc.specs.Meanings.{AreMeanings, AreMeaningsFrom, IsMeaning, tests_at}
 use Rattle.wy_vc.specs.Mentioned.{IsReaching, marked}
 use Rattle.wy_vc.specs.Told.{IsCond, IsEntry, Told, entries_by, entry_if, seen_cond, told}

@@ -8,9 +8,9 @@ use Rattle.wy_vc_spec.specs.Clauses.{passed}
 use Rattle.wy_vc_spec.specs.Calls.{Walked}
 use Rattle.wy_vc_spec.specs.Spots.{as_list}
 use Rattle.wy_vc_body.specs.declared.here.Here.{Here}
-use Rattle.wy_vc_exprs.specs.Numbered.{trees_of}
-use Rattle.wy_vc_exprs.specs.State.{Steps, hyps_of, passed_by}
-use Rattle.wy_vc_exprs.specs.declared.walk.Walk.{Walk}
+use Rattle.wy_vc_body.specs.wy_vc_exprs.Numbered.{trees_of}
+use Rattle.wy_vc_body.specs.wy_vc_exprs.State.{Steps, hyps_of, passed_by}
+use Rattle.wy_vc_body.specs.wy_vc_exprs.declared.walk.Walk.{Walk}
 use Rattle.wy_vc_body.specs.declared.paths.Path.{Path}
 use Rattle.wy_vc_body.specs.Paths.{ArePaths, seen_ends}
 use Rattle.wy_vc.specs.declared.branches.Fork.{Fork}

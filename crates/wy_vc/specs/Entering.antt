@@ -4,9 +4,9 @@ use Rattle.wy_vc_spec.specs.Clauses.{passed}
 use Rattle.wy_vc_spec.specs.Owed.{Owed}
 use Rattle.wy_vc_spec.specs.Statements.{Renewed}
 use Rattle.wy_vc_operations.specs.Growing.{Kept}
-use Rattle.wy_vc_exprs.specs.Slots.{AreSlots, slots_of}
-use Rattle.wy_vc_exprs.specs.State.{IsSound, Steps, owed_of}
-use Rattle.wy_vc_exprs.specs.declared.walk.Walk.{Walk}
+use Rattle.wy_vc_body.specs.wy_vc_exprs.Slots.{AreSlots, slots_of}
+use Rattle.wy_vc_body.specs.wy_vc_exprs.State.{IsSound, Steps, owed_of}
+use Rattle.wy_vc_body.specs.wy_vc_exprs.declared.walk.Walk.{Walk}
 
 -- this is assumed, and the variables stand for these terms; nothing was owed
 pub record Enters (old new : Walk) (vs : List (Option ℕ)) (r : Renewed) : Type 0 where

@@ -11,10 +11,10 @@ use Rattle.wy_vc_spec.specs.Owed.{assume}
 use Rattle.wy_vc_spec.specs.Spots.{Spot, spot, with_hyps, Flow}
 use Rattle.wy_vc_spec.specs.Statements as spec
 use Rattle.wy_vc_body.specs.declared.here.Here.{Here}
-use Rattle.wy_vc_exprs.specs.Numbered.{trees_of}
-use Rattle.wy_vc_exprs.specs.Slots.{slots_of}
-use Rattle.wy_vc_exprs.specs.State.{Steps, hyps_of}
-use Rattle.wy_vc_exprs.specs.declared.walk.Walk.{Walk}
+use Rattle.wy_vc_body.specs.wy_vc_exprs.Numbered.{trees_of}
+use Rattle.wy_vc_body.specs.wy_vc_exprs.Slots.{slots_of}
+use Rattle.wy_vc_body.specs.wy_vc_exprs.State.{Steps, hyps_of}
+use Rattle.wy_vc_body.specs.wy_vc_exprs.declared.walk.Walk.{Walk}
 use Rattle.wy_vc_body.specs.Paths.{ArePaths, IsEnd, IsSpot, seen_ends}
 use Rattle.wy_vc.specs.declared.branches.Tested.{Tested}
 use Rattle.wy_vc.specs.declared.heads.Head.{Head}

@@ -1,7 +1,7 @@
 //! Where a type, a contract or a body begins.
 ghost use Rattle.std.specs.Prelude.{◌≡◌, []};
 
-use wy_vc_exprs::Walk;
+use wy_vc_body::Walk;
 
 /// Nothing is assumed, no name is made, and this is the number of the next expression. The terms and what is owed stay.
 pub fn begin(walk: &mut Walk, first: usize)

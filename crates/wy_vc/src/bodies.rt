@@ -8,7 +8,7 @@ ghost use Rattle.wy_vc_body.specs.Frames.{IsFrame, body_at, program_of};
 ghost use Rattle.wy_vc.specs.Entering.{Owes};
 ghost use Rattle.wy_vc_body.specs.Paths.{IsEnd};
 ghost use Rattle.wy_vc_tables.specs.program_names.Described.{IsCalled, IsDescribed};
-ghost use Rattle.wy_vc_exprs.specs.State.{IsSound};
+ghost use Rattle.wy_vc_body.specs.wy_vc_exprs.State.{IsSound};
 
 use crate::begin::begin;
 use crate::entry::enter;
@@ -16,8 +16,7 @@ use crate::executing::exec_body;
 use std::alloc::Global;
 use wy_core::{Core, Routine};
 use wy_term::NoMemory;
-use wy_vc_body::{Frame, Here, declared_types, leave};
-use wy_vc_exprs::{Walk, assume_clauses};
+use wy_vc_body::{Frame, Here, Walk, assume_clauses, declared_types, leave};
 use wy_vc_tables::program_names::{Called, Program};
 
 // The end of a body that gives nothing back counts as a `return` at its declaration, where a path gets there; the end of one that gives

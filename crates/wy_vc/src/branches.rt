@@ -13,15 +13,14 @@ ghost use Rattle.wy_vc_body.specs.Frames.{IsFrame, body_at};
 ghost use Rattle.wy_vc_body.specs.Paths.{ArePaths, IsPath, Meets, seen_end, seen_ends};
 ghost use Rattle.wy_vc.specs.Branches.{Forks, IsTested, Turns};
 ghost use Rattle.wy_vc.specs.Flows.{IsEndOf, end_of};
-ghost use Rattle.wy_vc_exprs.specs.Numbered.{trees_of};
-ghost use Rattle.wy_vc_exprs.specs.Slots.{AreSlots, slots_of};
-ghost use Rattle.wy_vc_exprs.specs.State.{IsSound, Steps, hyps_of};
+ghost use Rattle.wy_vc_body.specs.wy_vc_exprs.Numbered.{trees_of};
+ghost use Rattle.wy_vc_body.specs.wy_vc_exprs.Slots.{AreSlots, slots_of};
+ghost use Rattle.wy_vc_body.specs.wy_vc_exprs.State.{IsSound, Steps, hyps_of};
 
 use std::alloc::Global;
 use wy_core::Expr;
 use wy_term::NoMemory;
-use wy_vc_body::{Frame, Here, Path, meet, path_here};
-use wy_vc_exprs::{Walk, walked};
+use wy_vc_body::{Frame, Here, Path, Walk, meet, path_here, walked};
 use wy_vc_operations::{denied, formula};
 
 /// A test that was walked: how many hypotheses there are behind it, and the formulas that it is true and that it is false, each by the

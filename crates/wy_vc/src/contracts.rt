@@ -6,16 +6,15 @@ ghost use Rattle.wy_core.specs.CoreSeen.{seen_exprs, seen_routine};
 ghost use Rattle.wy_vc_body.specs.Frames.{program_of};
 ghost use Rattle.wy_vc.specs.Entering.{Owes};
 ghost use Rattle.wy_vc_tables.specs.program_names.Described.{IsDescribed};
-ghost use Rattle.wy_vc_exprs.specs.Slots.{AreSlots, slots_of};
-ghost use Rattle.wy_vc_exprs.specs.State.{IsSound, hyps_of};
+ghost use Rattle.wy_vc_body.specs.wy_vc_exprs.Slots.{AreSlots, slots_of};
+ghost use Rattle.wy_vc_body.specs.wy_vc_exprs.State.{IsSound, hyps_of};
 
 use crate::begin::begin;
 use crate::entry::{enter, enter_result};
 use std::alloc::Global;
 use wy_core::{Core, Routine};
 use wy_term::NoMemory;
-use wy_vc_body::walk_clauses;
-use wy_vc_exprs::Walk;
+use wy_vc_body::{Walk, walk_clauses};
 use wy_vc_tables::program_names::Program;
 
 // What the ensures clauses owe, the first of whose expressions comes next, where parameters stand for these terms; where there are none the

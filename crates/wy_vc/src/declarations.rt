@@ -7,7 +7,7 @@ ghost use Rattle.wy_core.specs.CoreTree as tree;
 ghost use Rattle.wy_vc_body.specs.Frames.{program_of};
 ghost use Rattle.wy_vc.specs.Entering.{Owes, OwesFirst};
 ghost use Rattle.wy_vc_tables.specs.program_names.Described.{IsCalled, IsDescribed};
-ghost use Rattle.wy_vc_exprs.specs.State.{IsSound};
+ghost use Rattle.wy_vc_body.specs.wy_vc_exprs.State.{IsSound};
 
 use crate::bodies::owe_body;
 use crate::contracts::owe_contract;
@@ -15,7 +15,7 @@ use crate::types::owe_type;
 use std::alloc::{AllocError, Global};
 use wy_core::{Alias, Core, Decl, Routine};
 use wy_term::NoMemory;
-use wy_vc_exprs::Walk;
+use wy_vc_body::Walk;
 use wy_vc_tables::program_names::{Called, Program};
 use wy_vc_tables::sizes::{exprs_in_block, exprs_in_list, total};
 

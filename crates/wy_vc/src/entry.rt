@@ -9,18 +9,16 @@ ghost use Rattle.wy_vc_body.specs.Loops.{Renews};
 ghost use Rattle.wy_vc.specs.Entering.{Enters};
 ghost use Rattle.wy_vc_body.specs.Paths.{spot_of};
 ghost use Rattle.wy_vc_tables.specs.program_names.Described.{IsDescribed, setting};
-ghost use Rattle.wy_vc_exprs.specs.Slots.{AreSlots, slots_of};
-ghost use Rattle.wy_vc_exprs.specs.State.{IsSound, hyps_of};
+ghost use Rattle.wy_vc_body.specs.wy_vc_exprs.Slots.{AreSlots, slots_of};
+ghost use Rattle.wy_vc_body.specs.wy_vc_exprs.State.{IsSound, hyps_of};
 
 use std::alloc::{AllocError, Global};
 use wy_core::{Core, Output, Param, Routine};
 use wy_data::Name;
 use wy_term::NoMemory;
-use wy_vc_body::{Here, new_name};
-use wy_vc_exprs::{Walk, assume_in_type};
+use wy_vc_body::{Here, Walk, assume_in_type, new_name, variable, word_of};
 use wy_vc_operations::{put, val_name};
 use wy_vc_tables::program_names::Program;
-use wy_vc_terms::{variable, word_of};
 
 // A parameter takes a new name, and has a value.
 fn name_param(

@@ -7,16 +7,15 @@ ghost use Rattle.wy_core.specs.CoreSeen.{seen_block};
 ghost use Rattle.wy_vc_body.specs.Frames.{IsFrame, body_at};
 ghost use Rattle.wy_vc_body.specs.Going.{Went};
 ghost use Rattle.wy_vc_body.specs.Paths.{spot_of};
-ghost use Rattle.wy_vc_exprs.specs.Slots.{AreSlots};
-ghost use Rattle.wy_vc_exprs.specs.State.{IsSound};
+ghost use Rattle.wy_vc_body.specs.wy_vc_exprs.Slots.{AreSlots};
+ghost use Rattle.wy_vc_body.specs.wy_vc_exprs.State.{IsSound};
 
 use crate::rounds::Round;
 use crate::statements::exec_block;
 use std::alloc::Global;
 use wy_core::{Expr, Stmt};
 use wy_term::NoMemory;
-use wy_vc_body::{Frame, Here};
-use wy_vc_exprs::Walk;
+use wy_vc_body::{Frame, Here, Walk};
 
 /// The statements of a body, which stand in no loop, from what is known where the body begins: what they owe, and what is known behind
 /// them; None where no path gets behind them. Linear in the statements, but for what is known at each `if` and loop, which is copied.

@@ -10,17 +10,16 @@ ghost use Rattle.wy_vc.specs.Branches.{IsTested};
 ghost use Rattle.wy_vc.specs.Flows.{IsEndOf, Moves, end_of};
 ghost use Rattle.wy_vc.specs.Heads.{Begins, Closes, Enters, Parts, closed, entered, tested};
 ghost use Rattle.wy_vc.specs.Rounds.{around};
-ghost use Rattle.wy_vc_exprs.specs.Numbered.{trees_of};
-ghost use Rattle.wy_vc_exprs.specs.Slots.{AreSlots, slots_of};
-ghost use Rattle.wy_vc_exprs.specs.State.{IsSound, hyps_of};
+ghost use Rattle.wy_vc_body.specs.wy_vc_exprs.Numbered.{trees_of};
+ghost use Rattle.wy_vc_body.specs.wy_vc_exprs.Slots.{AreSlots, slots_of};
+ghost use Rattle.wy_vc_body.specs.wy_vc_exprs.State.{IsSound, hyps_of};
 
 use crate::branches::{Tested, path_where, walk_test};
 use crate::rounds::Round;
 use std::alloc::Global;
 use wy_core::{Expr, Stmt};
 use wy_term::{CondKind, NoMemory};
-use wy_vc_body::{Frame, Here, Path, meet, owe_invariants, renew, walk_clauses};
-use wy_vc_exprs::Walk;
+use wy_vc_body::{Frame, Here, Path, Walk, meet, owe_invariants, renew, walk_clauses};
 use wy_vc_tables::sizes::{exprs_in, total};
 
 /// Where a turn of a loop begins: the number of the first expression of the invariants, how many hypotheses there are where the paths of

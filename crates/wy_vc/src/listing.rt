@@ -9,7 +9,7 @@ ghost use Rattle.wy_vc_body.specs.Frames.{program_of};
 ghost use Rattle.wy_vc.specs.Counted.{seen_passing};
 ghost use Rattle.wy_vc.specs.Told.{IsCond};
 ghost use Rattle.wy_vc_tables.specs.program_names.Described.{IsDescribed};
-ghost use Rattle.wy_vc_exprs.specs.State.{IsSound, owed_of};
+ghost use Rattle.wy_vc_body.specs.wy_vc_exprs.State.{IsSound, owed_of};
 
 use crate::declarations::owe_declarations;
 use crate::fault::VcFault;
@@ -21,9 +21,8 @@ use std::alloc::Global;
 use wy_core::Core;
 use wy_flow_spec::typing::Typed;
 use wy_term::{Conds, NoMemory};
-use wy_vc_exprs::Walk;
+use wy_vc_body::{Maker, Walk};
 use wy_vc_tables::program_names::Program;
-use wy_vc_terms::Maker;
 
 /// The most conditions of a program.
 const MOST_CONDITIONS: usize = 16384;

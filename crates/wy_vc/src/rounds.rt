@@ -8,14 +8,13 @@ ghost use Rattle.wy_vc_body.specs.Going.{Went};
 ghost use Rattle.wy_vc_body.specs.Paths.{ArePaths, spot_of};
 ghost use Rattle.wy_vc.specs.Flows.{Flows};
 ghost use Rattle.wy_vc.specs.Rounds.{around};
-ghost use Rattle.wy_vc_exprs.specs.Slots.{AreSlots};
-ghost use Rattle.wy_vc_exprs.specs.State.{IsSound};
+ghost use Rattle.wy_vc_body.specs.wy_vc_exprs.Slots.{AreSlots};
+ghost use Rattle.wy_vc_body.specs.wy_vc_exprs.State.{IsSound};
 
 use std::alloc::Global;
 use wy_core::Expr;
 use wy_term::{CondKind, NoMemory};
-use wy_vc_body::{Frame, Here, Path, owe_invariants, path_here};
-use wy_vc_exprs::Walk;
+use wy_vc_body::{Frame, Here, Path, Walk, owe_invariants, path_here};
 
 /// The loop around: its invariants, the number of the first of their expressions, and how many hypotheses there are where the paths of a
 /// turn part. Around what stands in no loop there are no invariants.

@@ -11,14 +11,13 @@ ghost use Rattle.wy_core.specs.CoreTree as tree;
 ghost use Rattle.wy_vc_body.specs.Frames.{IsFrame, body_at};
 ghost use Rattle.wy_vc_body.specs.Going.{Went};
 ghost use Rattle.wy_vc_body.specs.Paths.{spot_of};
-ghost use Rattle.wy_vc_exprs.specs.Slots.{AreSlots};
-ghost use Rattle.wy_vc_exprs.specs.State.{IsSound};
+ghost use Rattle.wy_vc_body.specs.wy_vc_exprs.Slots.{AreSlots};
+ghost use Rattle.wy_vc_body.specs.wy_vc_exprs.State.{IsSound};
 
 use std::alloc::Global;
 use wy_core::{Expr, Step, Ty};
 use wy_term::{CondKind, NoMemory};
-use wy_vc_body::{Frame, Here, assign, give, leave, new_name};
-use wy_vc_exprs::{Walk, call, walked, walked_all};
+use wy_vc_body::{Frame, Here, Walk, assign, call, give, leave, new_name, walked, walked_all};
 use wy_vc_operations::{disjunction, formula};
 
 // `int x`: the variable takes a new name, and has no value.

@@ -8,8 +8,8 @@ ghost use Rattle.wy_vc_body.specs.Frames.{IsFrame, body_at};
 ghost use Rattle.wy_vc_body.specs.Paths.{ArePaths, spot_of};
 ghost use Rattle.wy_vc.specs.Flows.{Flows};
 ghost use Rattle.wy_vc.specs.Rounds.{around};
-ghost use Rattle.wy_vc_exprs.specs.Slots.{AreSlots};
-ghost use Rattle.wy_vc_exprs.specs.State.{IsSound};
+ghost use Rattle.wy_vc_body.specs.wy_vc_exprs.Slots.{AreSlots};
+ghost use Rattle.wy_vc_body.specs.wy_vc_exprs.State.{IsSound};
 
 use crate::branches::{begin_else, begin_if, end_if};
 use crate::heads::{begin_loop, end_loop};
@@ -18,8 +18,7 @@ use crate::simple::{assign_part, call_method, declare, hold, leave_body, never};
 use std::alloc::Global;
 use wy_core::{Stmt, StmtKind};
 use wy_term::NoMemory;
-use wy_vc_body::{Frame, Here, Path};
-use wy_vc_exprs::Walk;
+use wy_vc_body::{Frame, Here, Path, Walk};
 use wy_vc_tables::sizes::exprs_in_block;
 
 // The statements behind this one, which no path gets to, owe nothing, and their expressions have numbers.

@@ -6,7 +6,7 @@ ghost use Rattle.wy_vc.specs.Meanings.{AreMeanings};
 ghost use Rattle.wy_vc.specs.Standing.{Stands};
 ghost use Rattle.wy_vc.specs.Tested.{AreQuiet};
 ghost use Rattle.wy_vc.specs.Told as spec;
-ghost use Rattle.wy_vc_exprs.specs.State.{IsGoal, seen_goal};
+ghost use Rattle.wy_vc_body.specs.wy_vc_exprs.State.{IsGoal, seen_goal};
 
 use crate::mentioned::{is_marked, mentioned};
 use crate::small::small;
@@ -15,7 +15,7 @@ use crate::testing::testing_terms;
 use crate::unfolding::Meaning;
 use std::alloc::{AllocError, Global};
 use wy_term::{Cond, NoMemory, Terms, Unfold};
-use wy_vc_exprs::Goal;
+use wy_vc_body::Goal;
 
 // Puts a named type behind others, with what its test stands for, where it is marked.
 fn put_entry(

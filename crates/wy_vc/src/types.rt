@@ -6,14 +6,13 @@ ghost use Rattle.wy_core.specs.CoreSeen.{seen_alias};
 ghost use Rattle.wy_vc_body.specs.Frames.{program_of};
 ghost use Rattle.wy_vc.specs.Entering.{Owes};
 ghost use Rattle.wy_vc_tables.specs.program_names.Described.{IsDescribed};
-ghost use Rattle.wy_vc_exprs.specs.State.{IsSound};
+ghost use Rattle.wy_vc_body.specs.wy_vc_exprs.State.{IsSound};
 
 use crate::begin::begin;
 use std::alloc::Global;
 use wy_core::{Alias, Core};
 use wy_term::NoMemory;
-use wy_vc_body::{new_name, walk_clauses};
-use wy_vc_exprs::{Walk, assume_in_type};
+use wy_vc_body::{Walk, assume_in_type, new_name, walk_clauses};
 use wy_vc_operations::put;
 use wy_vc_tables::program_names::Program;
 

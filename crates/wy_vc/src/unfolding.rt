@@ -10,8 +10,8 @@ use crate::tests_of_types::types_tested;
 use std::alloc::Global;
 use wy_core::Core;
 use wy_term::NoMemory;
+use wy_vc_body::{Maker, type_formula};
 use wy_vc_tables::program_names::Program;
-use wy_vc_terms::{Maker, type_formula};
 
 /// What the test of a named type stands for: a Val name and a formula, by the numbers of terms, and the named types that the formula tests.
 #[derive(Drop)]

@@ -16,7 +16,7 @@ use Rattle.wy_vc_exprs.specs.Slots.{slots_of}
 use Rattle.wy_vc_exprs.proofs.NumberedLemmas.{kept_then, are_itself}
 use Rattle.wy_vc_exprs.proofs.SlotLemmas.{slots_kept}
 use Rattle.wy_vc_exprs.proofs.StateLemmas.{are_kept}
-use Rattle.wy_vc_terms.specs.declared.maker.Maker.{Maker}
+use Rattle.wy_vc_exprs.specs.wy_vc_terms.declared.maker.Maker.{Maker}
 use Rattle.wy_vc_body.specs.declared.paths.Path.{Path}
 use Rattle.wy_vc_body.specs.Paths.{IsPath, ArePaths, seen_path, seen_paths}
 use Rattle.wy_vc_body.specs.Known.{equation, equations, path_term, seen_names, AreNames}

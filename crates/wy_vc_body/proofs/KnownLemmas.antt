@@ -13,7 +13,7 @@ use Rattle.wy_vc_operations.specs.Growing.{AreAt, Kept, Makes, IsSlotBelow, AreS
 use Rattle.wy_vc_exprs.specs.Slots.{AreSlots, slots_of}
 use Rattle.wy_vc_exprs.proofs.NumberedLemmas.{kept_then}
 use Rattle.wy_vc_exprs.proofs.SlotLemmas.{slots_kept, slots_on}
-use Rattle.wy_vc_terms.specs.declared.maker.Maker.{Maker}
+use Rattle.wy_vc_exprs.specs.wy_vc_terms.declared.maker.Maker.{Maker}
 use Rattle.wy_vc_body.specs.declared.known.Joined.{Joined}
 use Rattle.wy_vc_body.specs.declared.paths.Path.{Path}
 use Rattle.wy_vc_body.specs.Paths.{ArePaths, seen_paths}

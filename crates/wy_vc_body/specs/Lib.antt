@@ -21,4 +21,4 @@ pub mod Results
 pub use Rattle.wy_vc_exprs.specs as wy_vc_exprs
 pub use Rattle.wy_vc_operations.specs as wy_vc_operations
 pub use Rattle.wy_vc_tables.specs as wy_vc_tables
-pub use Rattle.wy_vc_terms.specs as wy_vc_terms
+pub use Rattle.wy_vc_exprs.specs.wy_vc_terms as wy_vc_terms

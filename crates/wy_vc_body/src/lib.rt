@@ -35,3 +35,7 @@ pub use places::assign;
 pub use results::leave;
 pub use types::declared_types;
 pub use values::give;
+pub use wy_vc_exprs::{
+    Goal, Maker, Walk, assume_clauses, assume_in_type, call, type_formula, variable, walked,
+    walked_all, word_of,
+};

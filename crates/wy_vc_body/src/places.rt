@@ -25,9 +25,8 @@ use std::alloc::Global;
 use wy_core::{Expr, Step, StepKind};
 use wy_data::Name;
 use wy_term::{NoMemory, Terms};
-use wy_vc_exprs::{Walk, owe_index, walked};
+use wy_vc_exprs::{Walk, owe_index, variable, walked};
 use wy_vc_operations::{field, index, updated, updated_field};
-use wy_vc_terms::variable;
 
 /// A part that a step of a path leads out of, by the number of its term: an element of an array at an index, or a field of a record.
 #[derive(Drop)]

@@ -24,3 +24,4 @@ pub use expressions::{walked, walked_all};
 pub use goal::Goal;
 pub use steps::owe_index;
 pub use walk::Walk;
+pub use wy_vc_terms::{Maker, type_formula, variable, word_of};

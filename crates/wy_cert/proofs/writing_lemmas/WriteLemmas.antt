@@ -4,7 +4,7 @@ use Rattle.std.proofs.lemmas.List.{append-nil, take_all}
 use Rattle.std.specs.Prelude.{OnOk}
 use Rattle.std.specs.Fmt.{decimal}
 use Rattle.wy_term_text.proofs.wy_lemmas_proofs.Lists.{next_of as at_drop, drop_end as drop_all}
-use Rattle.wy_term.specs.Term.{Term}
+use Rattle.wy_term_text.specs.wy_term.Term.{Term}
 use Rattle.wy_term_text.specs.show.Text.{text_of}
 use Rattle.wy_cert.specs.declared.step.Step.{Step}
 use Rattle.wy_cert.specs.declared.step.Cert.{Cert}

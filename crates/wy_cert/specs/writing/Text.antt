@@ -1,7 +1,7 @@
 -- How certificates are written.
 use Rattle.std.specs.Prelude.{ℕ, List, [], ◌∷◌, ◌++◌, codes, Bool, true, false, ◌||◌, Option, Some, None}
 use Rattle.std.specs.Fmt.{decimal}
-use Rattle.wy_term.specs.Term.{Term}
+use Rattle.wy_term_text.specs.wy_term.Term.{Term}
 use Rattle.wy_term_text.specs.show.Text.{text_of}
 use Rattle.wy_cert.specs.Steps.{Written, split, shut, chain, clash, sum_of, cut, inst, wit, fact, prod, Certificates}
 

@@ -1,16 +1,16 @@
 //! Certificates, written step by step.
 ghost use Rattle.std.specs.Prelude.{◌≡◌, ◌<◌, ◌++◌, ℕ, All, codes, length, map, OnOk, IfOk};
 ghost use Rattle.std.specs.Fmt.{decimal};
-ghost use Rattle.wy_term.specs.Term.{Term};
-ghost use Rattle.wy_term.specs.Nodes.{tree_at};
+ghost use Rattle.wy_term_text.specs.wy_term.Term.{Term};
+ghost use Rattle.wy_term_text.specs.wy_term.Nodes.{tree_at};
 ghost use Rattle.wy_term_text.specs.show.Text.{text_of};
 ghost use Rattle.wy_cert.specs.Steps.{written, IsBelow, steps_of, certificates_of, NamesItsTerms, NameTheirTerms};
 ghost use Rattle.wy_cert.specs.writing.Text.{texts, pair_text, more_text, arguments_text, other_text, step_text, line_text, certificate_text, is_product, some_pass, has_product, header, file_text};
 
 use crate::{Cert, Certs, Step};
 use std::alloc::Global;
-use wy_term::{NoMemory, Terms};
 use wy_term_text::show::show_formula;
+use wy_term_text::{NoMemory, Terms};
 
 fn put(out: &mut Vec<u8>, text: &str) -> Result<(), NoMemory>
     ensures { OnOk result (out.new.items ≡ out.old.items ++ text.now) }

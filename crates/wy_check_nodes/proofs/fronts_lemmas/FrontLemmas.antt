@@ -12,8 +12,8 @@ use Rattle.wy_check_nodes.specs.Seen.{seen_branch, seen_formula, seen_literal, A
 use Rattle.wy_check_nodes.proofs.BranchLemmas.{over_take}
 use Rattle.wy_check_nodes.proofs.SumsBranchLemmas.{branch_stays}
 use Rattle.wy_lemmas.proofs.Equations.{Pairs}
-use Rattle.wy_term.specs.Nodes.{Plain, tree_at}
-use Rattle.wy_term.specs.Term.{Term}
+use Rattle.wy_check_spec.specs.wy_term.Nodes.{Plain, tree_at}
+use Rattle.wy_check_spec.specs.wy_term.Term.{Term}
 
 pub made_whole : (at : ℕ → Term) (ls ps : Pairs) (hs : List ℕ) (ss : List Size) → AreMade at ls ps hs ss → node_of at ls ps ≡ with_formulas bare (map at hs)
 made_whole at ls ps hs [] made = made

@@ -4,8 +4,8 @@ use Rattle.wy_check_nodes.specs.declared.fronts.front.Front.{Front}
 use Rattle.wy_check_nodes.specs.declared.fronts.front.Size.{Size}
 use Rattle.wy_check_spec.specs.judge.Node.{Node, bare, with_formulas}
 use Rattle.wy_check_nodes.specs.Seen.{seen_formula, seen_literal, AreBelow, IsBranch}
-use Rattle.wy_term.specs.Nodes.{Plain, tree_at}
-use Rattle.wy_term.specs.Term.{Term}
+use Rattle.wy_check_spec.specs.wy_term.Nodes.{Plain, tree_at}
+use Rattle.wy_check_spec.specs.wy_term.Term.{Term}
 
 -- the node of these literals and pending formulas
 abbrev pub node_of : (ℕ → Term) → List (ℕ × Bool) → List (ℕ × Bool) → Node

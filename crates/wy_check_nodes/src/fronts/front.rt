@@ -3,13 +3,13 @@ ghost use Rattle.std.specs.Prelude.{◌≡◌, ◌<◌, ◌≤◌, ◌-◌, ◌+
 ghost use Rattle.wy_check_nodes.specs.fronts.Front.{IsFirst, IsFront};
 ghost use Rattle.wy_check_spec.specs.judge.Node.{first_node};
 ghost use Rattle.wy_check_nodes.specs.Seen.{seen_branch, AreBelow, IsBranch};
-ghost use Rattle.wy_term.specs.Condition.{condition_of};
-ghost use Rattle.wy_term.specs.Nodes.{Plain, tree_at};
+ghost use Rattle.wy_check_spec.specs.wy_term.Condition.{condition_of};
+ghost use Rattle.wy_check_spec.specs.wy_term.Nodes.{Plain, tree_at};
 
 use crate::{Branch, add, back_to, bare};
 use std::alloc::Global;
 use std::collections::VecDeque;
-use wy_term::{Cond, NoMemory, Terms};
+use wy_check_spec::{Cond, NoMemory, Terms};
 
 /// How many literals and pending formulas a node had.
 #[derive(Clone, Copy, Debug, PartialEq, Eq)]

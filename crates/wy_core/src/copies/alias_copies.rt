@@ -4,8 +4,7 @@ ghost use Rattle.std.specs.Prelude.{◌≡◌, IfOk};
 use crate::copies::expr_copies::copy_exprs;
 use crate::declarations::Alias;
 use std::alloc::{AllocError, Global};
-use wy_data::Name;
-use wy_items::Items;
+use wy_value::{Items, Name};
 
 impl Alias {
     /// The same once more, places included, in time linear in its size.

@@ -3,8 +3,7 @@ ghost use Rattle.std.specs.Prelude.{◌≡◌, IfOk};
 
 use crate::expressions::{Expr, ExprKind};
 use std::alloc::{AllocError, Global};
-use wy_data::Name;
-use wy_items::{Boxed, Items};
+use wy_value::{Boxed, Items, Name};
 
 impl Expr {
     /// The same once more, places included, in time linear in its size.

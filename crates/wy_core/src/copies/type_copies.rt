@@ -3,8 +3,7 @@ ghost use Rattle.std.specs.Prelude.{◌≡◌, IfOk};
 
 use crate::types::{Atom, Conjunct, Part, Signed, Ty, TyKind};
 use std::alloc::{AllocError, Global};
-use wy_data::Name;
-use wy_items::{Boxed, Items};
+use wy_value::{Boxed, Items, Name};
 
 impl Ty {
     /// The same once more, places included, in time linear in its size.

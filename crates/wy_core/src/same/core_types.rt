@@ -4,7 +4,7 @@ ghost use Rattle.wy_core.specs.CoreSeen.{seen_ty, seen_conjunct, seen_atom, seen
 ghost use Rattle.wy_core.specs.same.SeenParts.{seen_field, seen_field_part, seen_signed};
 
 use crate::{Atom, Conjunct, Part, Signed, Ty, TyKind};
-use wy_data::Name;
+use wy_value::Name;
 
 /// Whether both are the same type, wherever they stand. It takes no memory, and its time is linear
 /// in the smaller type.

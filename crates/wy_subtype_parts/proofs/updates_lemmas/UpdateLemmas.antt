@@ -1,11 +1,11 @@
 -- What was found in a table of both types.
 use Rattle.std.proofs.Common.{◌≡◌, ℕ, List, [], subst}
 use Rattle.wy_core.specs.Types.{Ty, NormalTy}
-use Rattle.wy_types.specs.declared.question.Question.{Question}
-use Rattle.wy_types.specs.Names.{Declared}
-use Rattle.wy_types.specs.Questions.{numbered, first_part}
-use Rattle.wy_types.specs.Reach.{IsWide}
-use Rattle.wy_types.specs.Reading.{ty_at, conjuncts_at}
+use Rattle.wy_subtype.specs.wy_types.declared.question.Question.{Question}
+use Rattle.wy_subtype.specs.wy_types.Names.{Declared}
+use Rattle.wy_subtype.specs.wy_types.Questions.{numbered, first_part}
+use Rattle.wy_subtype.specs.wy_types.Reach.{IsWide}
+use Rattle.wy_subtype.specs.wy_types.Reading.{ty_at, conjuncts_at}
 use Rattle.wy_subtype.specs.declared.valued.Inhabited.{Inhabited}
 use Rattle.wy_subtype.specs.Valued.{AreThose}
 use Rattle.wy_subtype_parts.specs.updates.Updates.{IsWith, IsWideWith, all_of, records_of, second_part}

@@ -2,17 +2,17 @@
 use Rattle.std.specs.Prelude.{◌≡◌, ℕ, List, [], ◌∷◌, true, cond}
 use Rattle.std.specs.Str.{bytes_eq}
 use Rattle.wy_core.specs.Types.{Ty, NormalTy}
-use Rattle.wy_types.specs.declared.conjuncts.Part.{Part}
-use Rattle.wy_types.specs.declared.conjuncts.Signed.{Signed}
-use Rattle.wy_types.specs.declared.conjuncts.Atom.TheVariants as atom
-use Rattle.wy_types.specs.declared.conjuncts.Conjunct.{Conjunct}
-use Rattle.wy_types.specs.declared.question.Question.{Question}
-use Rattle.wy_types.specs.Same.{united_conjuncts}
-use Rattle.wy_types.specs.Conjuncts.{same_term, with_sides, dnf_part}
-use Rattle.wy_types.specs.Names.{Declared}
-use Rattle.wy_types.specs.Reading.{ty_at, conjuncts_at}
-use Rattle.wy_types.specs.Reach.{IsWide}
-use Rattle.wy_types.specs.Questions.{numbered, first_part}
+use Rattle.wy_subtype.specs.wy_types.declared.conjuncts.Part.{Part}
+use Rattle.wy_subtype.specs.wy_types.declared.conjuncts.Signed.{Signed}
+use Rattle.wy_subtype.specs.wy_types.declared.conjuncts.Atom.TheVariants as atom
+use Rattle.wy_subtype.specs.wy_types.declared.conjuncts.Conjunct.{Conjunct}
+use Rattle.wy_subtype.specs.wy_types.declared.question.Question.{Question}
+use Rattle.wy_subtype.specs.wy_types.Same.{united_conjuncts}
+use Rattle.wy_subtype.specs.wy_types.Conjuncts.{same_term, with_sides, dnf_part}
+use Rattle.wy_subtype.specs.wy_types.Names.{Declared}
+use Rattle.wy_subtype.specs.wy_types.Reading.{ty_at, conjuncts_at}
+use Rattle.wy_subtype.specs.wy_types.Reach.{IsWide}
+use Rattle.wy_subtype.specs.wy_types.Questions.{numbered, first_part}
 use Rattle.wy_subtype.specs.declared.valued.Inhabited.{Inhabited}
 use Rattle.wy_subtype.specs.Valued.{AreThose}
 

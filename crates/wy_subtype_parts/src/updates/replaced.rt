@@ -3,10 +3,9 @@ ghost use Rattle.std.specs.Prelude.{◌≡◌, [], IfOk};
 ghost use Rattle.wy_subtype_parts.specs.updates.Updates as spec;
 
 use std::alloc::{AllocError, Global};
-use wy_canon::{copy_part, copy_terms, united_conjuncts};
 use wy_data::Name;
 use wy_items::Items;
-use wy_types::{Atom, Conjunct, Part, Signed};
+use wy_subtype::{Atom, Conjunct, Part, Signed, copy_part, copy_terms, united_conjuncts};
 
 // The part of a field, or the terms where it is the field that is replaced.
 fn part_at(

@@ -2,7 +2,7 @@
 use Rattle.std.proofs.Common.{◌≡◌, ℕ, ◌<◌, ◌≤◌, ◌+◌, Bool, true, false, List, [], ◌∷◌, ◌++◌, Option, Some, None, length, map, drop, get_or, refl, sym, ap, ◌∙◌, subst, Bor, ◌==◌, if◌then◌else◌, eq-eqb, eqb-true}
 use Rattle.std.proofs.lemmas.List.{drop_all}
 use Rattle.wy_term.proofs.wy_lemmas_proofs.Lists.{at_drop}
-use Rattle.wy_data.specs.scan.Front.{is_word_byte, heads, IsRun, IsBehind, NotBehind}
+use Rattle.wy_term.specs.wy_data.scan.Front.{is_word_byte, heads, IsRun, IsBehind, NotBehind}
 use Rattle.wy_term_text.specs.declared.spell.lead.Lead.{Lead}
 use Rattle.wy_term_text.specs.declared.spell.lead.Class.TheVariants as class
 use Rattle.wy_term_text.specs.spell.Heads.{behind_word, row_or, lead_in, class_at, by_sign, behind_run, is_number_byte}

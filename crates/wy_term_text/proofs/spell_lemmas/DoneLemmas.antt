@@ -7,7 +7,7 @@ use Rattle.wy_term.specs.Folding.{folded}
 use Rattle.wy_term.specs.Nodes.{Plain, tree_at, parts_at, grown, of, HasPartsBelow}
 use Rattle.wy_term_text.specs.spell.Todo.{arity, Has, as_parts}
 use Rattle.wy_term_text.specs.spell.Done.{trees, IsMade, CannotBe}
-use Rattle.wy_data.proofs.scan_lemmas.WordLemmas.{from_true}
+use Rattle.wy_term.proofs.wy_data_proofs.scan_lemmas.WordLemmas.{from_true}
 use Rattle.std.proofs.lemmas.List.{length-drop, take_all}
 
 pub parts_at-trees : (nodes : List Plain) (ks : List ℕ) → parts_at (tree_at nodes) ks ≡ as_parts (trees nodes ks)

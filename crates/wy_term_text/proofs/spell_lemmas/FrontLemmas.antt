@@ -1,10 +1,10 @@
 -- What the front of a text says of names and leads.
 use Rattle.std.proofs.Common.{◌≡◌, ℕ, Bool, true, false, List, [], ◌∷◌, ◌++◌, Option, Some, None, codes, refl, ap, ◌∙◌, arith, ℤ, pos, negsuc, ◌<◌, length, ◌==◌, if◌then◌else◌, eqb-true}
 use Rattle.std.specs.Fmt.{decimal, signed_decimal}
-use Rattle.wy_data.specs.scan.Front.{is_digit, is_word_byte, heads, AllPass}
-use Rattle.wy_data.specs.scan.Numbers.{is_wide}
-use Rattle.wy_data.specs.scan.Words.{IsWord}
-use Rattle.wy_data.proofs.scan_lemmas.NumberLemmas.{decimal_passes, wide_pos, numeral}
+use Rattle.wy_term.specs.wy_data.scan.Front.{is_digit, is_word_byte, heads, AllPass}
+use Rattle.wy_term.specs.wy_data.scan.Numbers.{is_wide}
+use Rattle.wy_term.specs.wy_data.scan.Words.{IsWord}
+use Rattle.wy_term.proofs.wy_data_proofs.scan_lemmas.NumberLemmas.{decimal_passes, wide_pos, numeral}
 use Rattle.wy_term_text.specs.declared.spell.lead.Class.TheVariants as class
 use Rattle.wy_term_text.specs.declared.spell.lead.Lead.{Lead}
 use Rattle.wy_term_text.specs.declared.spell.lead.Lead.TheVariants as lead

@@ -2,9 +2,9 @@
 use Rattle.std.proofs.Common.{◌≡◌, ℕ, Bool, true, false, List, [], ◌∷◌, ◌++◌, Option, Some, None, codes, refl, sym, ap, ◌∙◌, subst, length, ◌<◌, ◌^◌, ℤ, append_assoc, if◌then◌else◌}
 use Rattle.std.proofs.lemmas.List.{append-nil}
 use Rattle.std.specs.Fmt.{decimal}
-use Rattle.wy_data.specs.scan.Front.{IsBehind}
-use Rattle.wy_data.specs.scan.Numbers.{IsWholeAt, IsNaturalAt}
-use Rattle.wy_data.specs.scan.Words.{IsWordAt, IsNumberedAt, AreFields}
+use Rattle.wy_term.specs.wy_data.scan.Front.{IsBehind}
+use Rattle.wy_term.specs.wy_data.scan.Numbers.{IsWholeAt, IsNaturalAt}
+use Rattle.wy_term.specs.wy_data.scan.Words.{IsWordAt, IsNumberedAt, AreFields}
 use Rattle.wy_term.specs.Term.{DataKind, null_kind, bool_kind, int_kind, array_kind, record_kind, Symbol, Term, Of, Parts, no_parts, part}
 use Rattle.wy_term.specs.Term as term
 use Rattle.wy_term.specs.Sorts.{Sort, int_sort, val_sort, formula_sort}

@@ -3,15 +3,15 @@ use Rattle.std.proofs.Common.{◌≡◌, ◌↔◌, ℕ, Bool, true, false, List
 use Rattle.std.proofs.lemmas.List.{append-nil}
 use Rattle.std.specs.Fmt.{decimal}
 use Rattle.std.specs.Str.{chars}
-use Rattle.wy_data.specs.Words.{is_word}
+use Rattle.wy_term.specs.wy_data.Words.{is_word}
 use Rattle.wy_term.proofs.wy_lemmas_proofs.Choices.{unlike as true_false}
 use Rattle.wy_term.proofs.wy_lemmas_proofs.Lists.{append_cancel as same_tail}
-use Rattle.wy_data.specs.scan.Front.{IsBehind, NotBehind, heads, is_word_byte}
-use Rattle.wy_data.specs.scan.Numbers.{IsWholeAt, IsNaturalAt, NoWhole, NoNatural}
-use Rattle.wy_data.specs.scan.Words.{IsWord, IsWordAt, NoWord, IsNumberedAt, NoNumbered, AreFields, AreWords}
-use Rattle.wy_data.proofs.scan_lemmas.RunLemmas.{RunsSame}
-use Rattle.wy_data.proofs.scan_lemmas.WordLemmas.{from_true}
-use Rattle.wy_data.proofs.scan_lemmas.OneReading.{one_natural, one_whole, one_word, one_numbered}
+use Rattle.wy_term.specs.wy_data.scan.Front.{IsBehind, NotBehind, heads, is_word_byte}
+use Rattle.wy_term.specs.wy_data.scan.Numbers.{IsWholeAt, IsNaturalAt, NoWhole, NoNatural}
+use Rattle.wy_term.specs.wy_data.scan.Words.{IsWord, IsWordAt, NoWord, IsNumberedAt, NoNumbered, AreFields, AreWords}
+use Rattle.wy_term.proofs.wy_data_proofs.scan_lemmas.RunLemmas.{RunsSame}
+use Rattle.wy_term.proofs.wy_data_proofs.scan_lemmas.WordLemmas.{from_true}
+use Rattle.wy_term.proofs.wy_data_proofs.scan_lemmas.OneReading.{one_natural, one_whole, one_word, one_numbered}
 use Rattle.wy_term.specs.Term.{DataKind, null_kind, bool_kind, int_kind, array_kind, record_kind, Symbol, Term, Of, Parts, no_parts, part}
 use Rattle.wy_term.specs.Term as term
 use Rattle.wy_term.specs.Sorts.{Sort, int_sort, val_sort, formula_sort}

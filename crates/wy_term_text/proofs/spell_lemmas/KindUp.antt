@@ -2,9 +2,9 @@
 use Rattle.std.proofs.Common.{◌≡◌, ◌↔◌, ℕ, Bool, false, List, [], ◌∷◌, ◌++◌, codes, refl, sym, ap, ◌∙◌, subst, length, append_assoc, IsTrue, Option, Some, None, Result, Ok, Err, IfOk, MatchOption, Vec, Bor, map}
 use Rattle.std.proofs.lemmas.List.{append-nil}
 use Rattle.wy_term.proofs.wy_lemmas_proofs.Choices.{unlike as true_false}
-use Rattle.wy_data.specs.scan.Front.{IsBehind, NotBehind, heads, is_word_byte}
-use Rattle.wy_data.specs.scan.Words.{NoWord, AreFields}
-use Rattle.wy_data.proofs.scan_lemmas.WordLemmas.{from_true}
+use Rattle.wy_term.specs.wy_data.scan.Front.{IsBehind, NotBehind, heads, is_word_byte}
+use Rattle.wy_term.specs.wy_data.scan.Words.{NoWord, AreFields}
+use Rattle.wy_term.proofs.wy_data_proofs.scan_lemmas.WordLemmas.{from_true}
 use Rattle.wy_term.specs.Term.{DataKind, null_kind, bool_kind, int_kind, array_kind, record_kind, Term}
 use Rattle.wy_term.specs.Term as term
 use Rattle.wy_term_text.specs.spell.Grammar.{more_names, kind_before, IsKind}

@@ -2,7 +2,7 @@
 use Rattle.std.proofs.Common.{◌≡◌, ℕ, Bool, true, false, inl, inr, List, [], ◌∷◌, ◌++◌, Option, Some, None, codes, refl, sym, ap, ◌∙◌, subst, length, ◌==◌, if◌then◌else◌, eqb-true, append_assoc}
 use Rattle.std.specs.Fmt.{decimal}
 use Rattle.wy_term.proofs.wy_lemmas_proofs.Choices.{unlike as true_false}
-use Rattle.wy_data.specs.scan.Front.{is_word_byte, heads}
+use Rattle.wy_term.specs.wy_data.scan.Front.{is_word_byte, heads}
 use Rattle.wy_term.specs.Term.{DataKind, Symbol, Term, Of, Parts, no_parts, part, leaf}
 use Rattle.wy_term.specs.Term as term
 use Rattle.wy_term.specs.Sorts.{val_sort}

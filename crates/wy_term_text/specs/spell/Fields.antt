@@ -1,7 +1,7 @@
 -- What was read as the name of a field, behind other names.
 use Rattle.std.specs.Prelude.{◌≡◌, ℕ, List, [], ◌∷◌, ◌++◌, codes}
-use Rattle.wy_data.specs.scan.Front.{IsBehind}
-use Rattle.wy_data.specs.scan.Words.{IsWord, IsWordAt}
+use Rattle.wy_term.specs.wy_data.scan.Front.{IsBehind}
+use Rattle.wy_term.specs.wy_data.scan.Words.{IsWord, IsWordAt}
 use Rattle.wy_term.specs.Sorts.{val_sort}
 use Rattle.wy_term_text.specs.spell.Todo.{Work, a_term, more_fields, kind_fields}
 

@@ -1,9 +1,9 @@
 -- How terms and formulas are spelled, byte by byte.
 use Rattle.std.specs.Prelude.{◌≡◌, ℕ, ◌<◌, ◌^◌, List, [], ◌∷◌, ◌++◌, Bool, true, false, ◌==◌, ◌||◌, codes, Option, Some, None, ◌⊎◌}
 use Rattle.std.specs.Fmt.{decimal, signed_decimal}
-use Rattle.wy_data.specs.scan.Front.{is_digit, is_word_byte, heads}
-use Rattle.wy_data.specs.scan.Numbers.{is_wide}
-use Rattle.wy_data.specs.scan.Words.{IsWord, AreFields}
+use Rattle.wy_term.specs.wy_data.scan.Front.{is_digit, is_word_byte, heads}
+use Rattle.wy_term.specs.wy_data.scan.Numbers.{is_wide}
+use Rattle.wy_term.specs.wy_data.scan.Words.{IsWord, AreFields}
 use Rattle.wy_term.specs.Term.{DataKind, null_kind, bool_kind, int_kind, array_kind, record_kind, Symbol, Term, Of, Parts, no_parts, part}
 use Rattle.wy_term.specs.Term as term
 use Rattle.wy_term.specs.Sorts.{Sort, int_sort, val_sort, formula_sort, sort_of}

@@ -1,8 +1,8 @@
 -- How terms begin, as the reader sees it.
 use Rattle.std.specs.Prelude.{◌≡◌, ℕ, List, [], ◌∷◌, ◌++◌, Bool, true, false, ◌==◌, ◌||◌, codes, Option, Some, None, ℤ, if◌then◌else◌}
-use Rattle.wy_data.specs.scan.Front.{is_digit, is_word_byte, heads}
-use Rattle.wy_data.specs.scan.Numbers.{IsWholeAt}
-use Rattle.wy_data.specs.scan.Words.{IsNumberedAt}
+use Rattle.wy_term.specs.wy_data.scan.Front.{is_digit, is_word_byte, heads}
+use Rattle.wy_term.specs.wy_data.scan.Numbers.{IsWholeAt}
+use Rattle.wy_term.specs.wy_data.scan.Words.{IsNumberedAt}
 use Rattle.wy_term.specs.Term.{Symbol, Term}
 use Rattle.wy_term.specs.Term as term
 use Rattle.wy_term.specs.Sorts.{Sort, int_sort, val_sort, formula_sort}

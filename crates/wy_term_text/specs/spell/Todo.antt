@@ -1,7 +1,7 @@
 -- What a list of things that are still to be read stands for: which terms may come of it with the text that is left.
 use Rattle.std.specs.Prelude.{◌≡◌, ℕ, ◌<◌, ◌≤◌, ◌^◌, List, [], ◌∷◌, ◌++◌, Bool, codes, length, take, drop, Option, Some, None}
 use Rattle.std.specs.Fmt.{decimal}
-use Rattle.wy_data.specs.scan.Words.{IsWord, AreFields}
+use Rattle.wy_term.specs.wy_data.scan.Words.{IsWord, AreFields}
 use Rattle.wy_term.specs.Term.{DataKind, record_kind, Symbol, Term, Of, Parts, no_parts, part}
 use Rattle.wy_term.specs.Term as term
 use Rattle.wy_term.specs.Sorts.{Sort, int_sort, val_sort, formula_sort}

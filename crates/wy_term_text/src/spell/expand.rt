@@ -8,15 +8,14 @@ ghost use Rattle.wy_term_text.specs.spell.Todo as todo;
 ghost use Rattle.wy_term_text.specs.spell.Todo.{a_term, gap_works, Replaces, Covers, Refuses};
 ghost use Rattle.wy_term_text.specs.spell.Heads.{int_works, val_works, formula_works, parted, led_at};
 ghost use Rattle.wy_term_text.specs.spell.Fields.{IsFieldRead, IsKindFieldRead, NoField};
-ghost use Rattle.wy_data.specs.scan.Words.{NoWord};
+ghost use Rattle.wy_term.specs.wy_data.scan.Words.{NoWord};
 ghost use Rattle.wy_term_text.specs.spell.View.{seen, series_seen, sort_seen, symbol_of};
 
 use crate::spell::lead::{Class, Lead, begins, blocked, class_of, lead_of};
 use crate::spell::work::{Root, Series, Sort, Task};
 use std::alloc::Global;
-use wy_data::Name;
-use wy_data::scan::{are_fields, behind, natural, numbered, whole, word};
-use wy_term::{Kind, NoMemory};
+use wy_term::scan::{are_fields, behind, natural, numbered, whole, word};
+use wy_term::{Kind, Name, NoMemory};
 
 // What is to be read in its place, and the text that is left; None where nothing can be read.
 type Expansion<'a> = Result<Option<(Vec<Task>, &'a [u8])>, NoMemory>;

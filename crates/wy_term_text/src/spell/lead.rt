@@ -1,12 +1,12 @@
 //! How a term begins.
 ghost use Rattle.std.specs.Prelude.{◌≡◌, None, Some, MatchOption};
 ghost use Rattle.wy_term_text.specs.spell.Grammar as grammar;
-ghost use Rattle.wy_data.specs.scan.Front.{heads};
+ghost use Rattle.wy_term.specs.wy_data.scan.Front.{heads};
 ghost use Rattle.wy_term_text.specs.spell.Heads.{lead_at, class_at, begins_with, sort_by_lead, is_number_byte, by_sign as class_by_sign, blocked as blocked_by};
 ghost use Rattle.wy_term_text.specs.spell.View.{sort_seen};
 
 use crate::spell::work::Sort;
-use wy_data::scan::{behind, is_digit, is_word_byte, run};
+use wy_term::scan::{behind, is_digit, is_word_byte, run};
 
 /// A word at the front of a text that says what is to be read.
 #[derive(Clone, Copy)]

@@ -8,8 +8,7 @@ ghost use Rattle.wy_term_text.specs.spell.View.{symbol_of};
 
 use crate::spell::work::Root;
 use std::alloc::Global;
-use wy_data::Name;
-use wy_term::{NoMemory, Node, Quantifier, Terms};
+use wy_term::{Name, NoMemory, Node, Quantifier, Terms};
 
 // How many parts there are, where this doesn't vary.
 fn arity(root: &Root) -> Option<usize>

@@ -1,5 +1,5 @@
 //! What is still to be read.
-use wy_data::Name;
+use wy_term::Name;
 
 /// Whether an Int term, a Val term or a formula is to be read.
 #[derive(Clone, Copy)]

@@ -1,6 +1,6 @@
 use Rattle.std.proofs.Common.{rules, arith, List, length, map, sym, ◌∙◌, subst}
-use Rattle.wy_term.specs.Term.{Term}
-use Rattle.wy_term.specs.Nodes.{tree_at}
+use Rattle.wy_term_text.specs.wy_term.Term.{Term}
+use Rattle.wy_term_text.specs.wy_term.Nodes.{tree_at}
 use Rattle.wy_cert.specs.Only.{IsTheOne, HasNone, GoesOn}
 use Rattle.wy_cert.specs.Arguments.{IsCut, IsArgument, AreArguments}
 use Rattle.wy_cert.proofs.ArgumentLemmas.{pushed, cut_of, uncut_of, arguments_turn, arguments_end, arguments_none_at}

@@ -1,5 +1,5 @@
 use Rattle.std.proofs.Common.{◌≡◌, ℕ, ◌<◌, ◌≤◌, All, length, map}
-use Rattle.wy_term.specs.Nodes.{tree_at}
+use Rattle.wy_term_text.specs.wy_term.Nodes.{tree_at}
 use Rattle.wy_cert.specs.Only.{GoesOn}
 use Rattle.wy_cert.specs.Arguments.{AreArguments}
 use Rattle.wy_cert.proofs.arguments.arguments.Given as goal

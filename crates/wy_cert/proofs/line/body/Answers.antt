@@ -1,5 +1,5 @@
 use Rattle.std.proofs.Common.{length}
-use Rattle.wy_term.specs.Nodes.{tree_at}
+use Rattle.wy_term_text.specs.wy_term.Nodes.{tree_at}
 use Rattle.wy_cert.proofs.line.body.Goals as goal
 
 pub returns-in-Shut-clause-value : goal.returns-in-Shut-clause-value

@@ -1,5 +1,5 @@
 use Rattle.std.proofs.Common.{rules, arith, ◌≤◌, ◌∷◌, true, map}
-use Rattle.wy_term.specs.Nodes.{tree_at}
+use Rattle.wy_term_text.specs.wy_term.Nodes.{tree_at}
 use Rattle.wy_cert.specs.Only.{IsTheOne}
 use Rattle.wy_cert.specs.Numbers.{IsPlaceAt}
 use Rattle.wy_cert.specs.Arguments.{AreArguments}

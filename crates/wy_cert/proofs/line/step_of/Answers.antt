@@ -1,6 +1,6 @@
 use Rattle.std.proofs.Common.{rules}
 use Rattle.wy_data.specs.scan.Front.{IsBehind}
-use Rattle.wy_term.specs.Nodes.{tree_at}
+use Rattle.wy_term_text.specs.wy_term.Nodes.{tree_at}
 use Rattle.wy_cert.specs.Steps.{written}
 use Rattle.wy_cert.specs.Lines.{word_of, IsBody, IsStep}
 use Rattle.wy_cert.proofs.OneLemmas.{answer_same}

@@ -1,6 +1,6 @@
 use Rattle.std.proofs.Common.{rules, arith, ◌≡◌, ◌<◌, ◌+◌, ◌-◌, ◌++◌, ◌∷◌, [], ℕ, List, length, map, sym, subst}
 use Rattle.std.proofs.lemmas.List.Elements.{All-push}
-use Rattle.wy_term.specs.Nodes.{tree_at}
+use Rattle.wy_term_text.specs.wy_term.Nodes.{tree_at}
 use Rattle.wy_cert.specs.Only.{IsTheOne, HasNone, AreSame}
 use Rattle.wy_cert.specs.Steps.{Written, written, IsBelow, children}
 use Rattle.wy_cert.specs.Lines.{IsStep}

@@ -1,5 +1,5 @@
 use Rattle.std.proofs.Common.{◌≤◌, ◌<◌, ◌+◌, All, [], length, map}
-use Rattle.wy_term.specs.Nodes.{tree_at}
+use Rattle.wy_term_text.specs.wy_term.Nodes.{tree_at}
 use Rattle.wy_cert.specs.Only.{AreSame}
 use Rattle.wy_cert.specs.Steps.{written, IsBelow}
 use Rattle.wy_cert.specs.File.{ReadsTree}

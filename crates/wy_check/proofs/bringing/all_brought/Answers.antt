@@ -1,5 +1,5 @@
 use Rattle.wy_facts.proofs.StepLemmas.{stays_on}
-use Rattle.wy_check_nodes.proofs.CutLemmas.{put_below}
+use Rattle.wy_check_splits.proofs.wy_check_nodes_proofs.CutLemmas.{put_below}
 use Rattle.wy_check.proofs.BringLemmas.{brought_more}
 use Rattle.wy_check.proofs.bringing.all_brought.Goals as goal
 

@@ -6,10 +6,10 @@ use Rattle.wy_vc_laws.specs.wy_check_spec.judge.Node.{Node}
 use Rattle.wy_facts.proofs.StepLemmas.{stays_on}
 use Rattle.wy_lin.specs.TermForm.{form_of}
 use Rattle.wy_lin.specs.Seen.{IsOver, linear_form, seen_form}
-use Rattle.wy_check_nodes.specs.Seen.{seen_branch}
+use Rattle.wy_check_splits.specs.wy_check_nodes.Seen.{seen_branch}
 use Rattle.wy_vc_laws.specs.wy_check_spec.valid.Sums.{form_at}
-use Rattle.wy_check_nodes.proofs.SumsBranchLemmas.{branch_stays, node_stays}
-use Rattle.wy_check_nodes.proofs.FormLemmas.{form_kept}
+use Rattle.wy_check_splits.proofs.wy_check_nodes_proofs.SumsBranchLemmas.{branch_stays, node_stays}
+use Rattle.wy_check_splits.proofs.wy_check_nodes_proofs.FormLemmas.{form_kept}
 use Rattle.wy_check.proofs.ProductLemmas.{forms_stop_fourth, forms_are}
 use Rattle.wy_check.proofs.product.forms_of.Goals as goal
 

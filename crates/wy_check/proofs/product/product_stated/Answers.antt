@@ -3,7 +3,7 @@ use Rattle.std.specs.Prelude.{option_map}
 use Rattle.wy_lemmas.proofs.Options.{some}
 use Rattle.wy_term.specs.Term.{Term}
 use Rattle.wy_term.specs.Nodes.{tree_at}
-use Rattle.wy_check_nodes.specs.Seen.{seen_branch}
+use Rattle.wy_check_splits.specs.wy_check_nodes.Seen.{seen_branch}
 use Rattle.wy_vc_laws.specs.wy_check_spec.valid.Products.{product_bound}
 use Rattle.wy_check.specs.Stated.{seen_factors, seen_forms}
 use Rattle.wy_check.proofs.ProductLemmas.{stated_no_forms, stated_no_numbers, stated_all}

@@ -3,8 +3,8 @@ use Rattle.std.specs.Prelude.{option_map}
 use Rattle.wy_term.specs.Nodes.{tree_at}
 use Rattle.wy_facts.specs.Seen.{terms_at}
 use Rattle.wy_facts.proofs.StepLemmas.{stays_on}
-use Rattle.wy_check_nodes.specs.Seen.{seen_branch}
-use Rattle.wy_check_nodes.proofs.SumsBranchLemmas.{branch_stays, node_stays}
+use Rattle.wy_check_splits.specs.wy_check_nodes.Seen.{seen_branch}
+use Rattle.wy_check_splits.proofs.wy_check_nodes_proofs.SumsBranchLemmas.{branch_stays, node_stays}
 use Rattle.wy_check.proofs.StepLemmas.{chain_led}
 use Rattle.wy_check.proofs.steps.by_chain.Goals as goal
 

@@ -1,7 +1,7 @@
 use Rattle.std.proofs.Common.{length}
 use Rattle.std.specs.Prelude.{option_map}
 use Rattle.wy_term.specs.Nodes.{tree_at}
-use Rattle.wy_check_nodes.specs.Seen.{seen_branch}
+use Rattle.wy_check_splits.specs.wy_check_nodes.Seen.{seen_branch}
 use Rattle.wy_check.proofs.StepLemmas.{ok_with, cut_led}
 use Rattle.wy_check.proofs.steps.by_cut.Goals as goal
 

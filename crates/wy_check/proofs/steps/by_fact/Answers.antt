@@ -5,7 +5,7 @@ use Rattle.wy_term.specs.Condition.{condition_of}
 use Rattle.wy_term.specs.Nodes.{tree_at}
 use Rattle.wy_facts.specs.Seen.{terms_at}
 use Rattle.wy_facts.proofs.StepLemmas.{stays_on}
-use Rattle.wy_check_nodes.specs.Seen.{seen_branch}
+use Rattle.wy_check_splits.specs.wy_check_nodes.Seen.{seen_branch}
 use Rattle.wy_check.proofs.TrailLemmas.{types_up}
 use Rattle.wy_check.proofs.StepLemmas.{ok_with, fact_led}
 use Rattle.wy_check.proofs.steps.by_fact.Goals as goal

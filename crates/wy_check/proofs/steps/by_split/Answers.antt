@@ -1,6 +1,6 @@
 use Rattle.wy_term.specs.Nodes.{tree_at}
-use Rattle.wy_check_nodes.specs.Seen.{seen_branch}
-use Rattle.wy_check_nodes.proofs.SumsBranchLemmas.{branch_stays, node_stays}
+use Rattle.wy_check_splits.specs.wy_check_nodes.Seen.{seen_branch}
+use Rattle.wy_check_splits.proofs.wy_check_nodes_proofs.SumsBranchLemmas.{branch_stays, node_stays}
 use Rattle.wy_check.proofs.StepLemmas.{split_yes, split_no}
 use Rattle.wy_check.proofs.steps.by_split.Goals as goal
 

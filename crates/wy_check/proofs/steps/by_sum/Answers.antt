@@ -1,6 +1,6 @@
 use Rattle.std.proofs.Common.{length, ◌∙◌}
 use Rattle.wy_term.specs.Nodes.{tree_at}
-use Rattle.wy_check_nodes.specs.Seen.{seen_branch}
+use Rattle.wy_check_splits.specs.wy_check_nodes.Seen.{seen_branch}
 use Rattle.wy_check.proofs.StepLemmas.{sum_led}
 use Rattle.wy_check.proofs.steps.by_sum.Goals as goal
 

@@ -2,9 +2,9 @@ use Rattle.std.proofs.Common.{◌++◌, List, sym, ap, ◌∙◌}
 use Rattle.std.specs.Prelude.{option_map}
 use Rattle.wy_term.specs.Nodes.{tree_at}
 use Rattle.wy_vc_laws.specs.wy_check_spec.judge.Node.{Node}
-use Rattle.wy_check_nodes.specs.Seen.{seen_branch}
-use Rattle.wy_check_nodes.specs.Trail.{second_nodes}
-use Rattle.wy_check_nodes.proofs.SumsBranchLemmas.{node_stays}
+use Rattle.wy_check_splits.specs.wy_check_nodes.Seen.{seen_branch}
+use Rattle.wy_check_splits.specs.wy_check_nodes.Trail.{second_nodes}
+use Rattle.wy_check_splits.proofs.wy_check_nodes_proofs.SumsBranchLemmas.{node_stays}
 use Rattle.wy_check.specs.Led.{led}
 use Rattle.wy_check.proofs.TrailLemmas.{seconds_stay, trail_stays}
 use Rattle.wy_check.proofs.turning.turned.Goals as goal

@@ -1,5 +1,5 @@
 use Rattle.std.proofs.Common.{◌≡◌, ◌∷◌, [], length}
-use Rattle.wy_term.specs.Nodes.{tree_at}
+use Rattle.wy_check_spec.specs.wy_term.Nodes.{tree_at}
 use Rattle.wy_check_nodes.specs.Seen.{seen_branch, AreOver, IsBranch, Extends}
 use Rattle.wy_check_nodes.specs.Tasks.{after_all}
 use Rattle.wy_check_nodes.proofs.adding.add.Given as goal

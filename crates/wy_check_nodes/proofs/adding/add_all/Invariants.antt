@@ -1,5 +1,5 @@
 use Rattle.std.proofs.Common.{◌≡◌, map, drop}
-use Rattle.wy_term.specs.Nodes.{tree_at}
+use Rattle.wy_check_spec.specs.wy_term.Nodes.{tree_at}
 use Rattle.wy_check_spec.specs.judge.Node.{with_formulas}
 use Rattle.wy_check_nodes.specs.Seen.{seen_branch, IsBranch, Extends}
 use Rattle.wy_check_nodes.proofs.adding.add_all.Given as goal

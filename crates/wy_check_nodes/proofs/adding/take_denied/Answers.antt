@@ -1,6 +1,6 @@
 use Rattle.std.proofs.Common.{◌≡◌, ◌∙◌, ℕ, List, sym, ap, length, false, rules}
-use Rattle.wy_term.specs.Term.{Of, any_of}
-use Rattle.wy_term.specs.Nodes.{tree_at, parts_at}
+use Rattle.wy_check_spec.specs.wy_term.Term.{Of, any_of}
+use Rattle.wy_check_spec.specs.wy_term.Nodes.{tree_at, parts_at}
 use Rattle.wy_check_nodes.specs.Seen.{seen_branch, AreBelow}
 use Rattle.wy_check_nodes.proofs.AddingLemmas as lemmas
 use Rattle.wy_check_nodes.proofs.adding.take_denied.Goals as goal

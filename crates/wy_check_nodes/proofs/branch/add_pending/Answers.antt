@@ -1,5 +1,5 @@
 use Rattle.std.proofs.Common.{length}
-use Rattle.wy_term.specs.Nodes.{tree_at}
+use Rattle.wy_check_spec.specs.wy_term.Nodes.{tree_at}
 use Rattle.wy_check_nodes.proofs.NameLemmas.{NamesOnce, names_once}
 use Rattle.wy_check_nodes.proofs.BranchLemmas.{pending_put, over_put, bare_put, starts_put, starts_same}
 use Rattle.wy_check_nodes.proofs.branch.add_pending.Goals as goal

@@ -1,5 +1,5 @@
 use Rattle.std.proofs.Common.{length, subst, sym}
-use Rattle.wy_term.specs.Nodes.{tree_at}
+use Rattle.wy_check_spec.specs.wy_term.Nodes.{tree_at}
 use Rattle.wy_check_nodes.specs.Seen.{AreOver, AreBare}
 use Rattle.wy_check_nodes.proofs.BranchLemmas.{over_take, bare_take}
 use Rattle.wy_check_nodes.proofs.branch.back_to.Goals as goal

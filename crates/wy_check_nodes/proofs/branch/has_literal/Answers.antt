@@ -1,6 +1,6 @@
 use Rattle.std.proofs.Common.{◌≡◌, ◌∙◌, sym, length, rules}
 use Rattle.std.specs.List.{list_any}
-use Rattle.wy_term.specs.Nodes.{tree_at}
+use Rattle.wy_check_spec.specs.wy_term.Nodes.{tree_at}
 use Rattle.wy_check_nodes.specs.Seen.{same_signed}
 use Rattle.wy_check_nodes.proofs.NameLemmas.{NamesOnce, names_once}
 use Rattle.wy_check_nodes.proofs.BranchLemmas.{among}

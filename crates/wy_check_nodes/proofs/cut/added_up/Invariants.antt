@@ -1,5 +1,5 @@
 use Rattle.std.proofs.Common.{◌≡◌, ◌<◌, length, drop}
-use Rattle.wy_term.specs.Nodes.{tree_at}
+use Rattle.wy_check_spec.specs.wy_term.Nodes.{tree_at}
 use Rattle.wy_check_spec.specs.wy_facts.Seen.{terms_at, Stays}
 use Rattle.wy_check_spec.specs.valid.Sums.{added_up}
 use Rattle.wy_check_nodes.proofs.cut.added_up.Given as goal

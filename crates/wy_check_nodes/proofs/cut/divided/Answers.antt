@@ -1,9 +1,9 @@
 use Rattle.std.proofs.Common.{◌≡◌, ◌≢◌, ℕ, ℤ, pos, get_or, FitsSigned, of_z, rules, ap, ◌∙◌, arith}
 use Rattle.std.specs.Int.{w128}
 use Rattle.std.proofs.lemmas.Int.{ints, to_z-of_z}
-use Rattle.wy_term.specs.Nodes.{tree_at}
-use Rattle.wy_term.specs.Term.{Term}
-use Rattle.wy_lin.specs.Seen.{seen_part}
+use Rattle.wy_check_spec.specs.wy_term.Nodes.{tree_at}
+use Rattle.wy_check_spec.specs.wy_term.Term.{Term}
+use Rattle.wy_check_spec.specs.wy_lin.Seen.{seen_part}
 use Rattle.wy_check_spec.proofs.wy_facts_proofs.StepLemmas.{stays_on}
 use Rattle.wy_check_nodes.proofs.CutLemmas.{product_of, divided_skip, divided_put, put_below}
 use Rattle.wy_check_nodes.proofs.cut.divided.Goals as goal

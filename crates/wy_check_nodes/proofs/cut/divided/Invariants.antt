@@ -1,6 +1,6 @@
 use Rattle.std.proofs.Common.{◌≡◌, ◌++◌, length, drop, map}
-use Rattle.wy_term.specs.Nodes.{tree_at}
-use Rattle.wy_lin.specs.Seen.{seen_part}
+use Rattle.wy_check_spec.specs.wy_term.Nodes.{tree_at}
+use Rattle.wy_check_spec.specs.wy_lin.Seen.{seen_part}
 use Rattle.wy_check_spec.specs.wy_facts.Seen.{terms_at, AreBelow, Stays}
 use Rattle.wy_check_spec.specs.valid.Sums.{divided}
 use Rattle.wy_check_nodes.proofs.cut.divided.Given as goal

@@ -1,5 +1,5 @@
 use Rattle.std.proofs.Common.{◌≡◌, ◌≤◌, length, drop}
-use Rattle.wy_term.specs.Nodes.{tree_at, parts_at}
+use Rattle.wy_check_spec.specs.wy_term.Nodes.{tree_at, parts_at}
 use Rattle.wy_check_spec.specs.judge.Judgement.{judged_all}
 use Rattle.wy_check_nodes.specs.Seen.{seen_branch}
 use Rattle.wy_check_nodes.proofs.few.all_of_atoms.Given as goal

@@ -1,6 +1,6 @@
 use Rattle.std.proofs.Common.{◌≡◌, ◌∙◌, ℕ, List, sym, ap, rules}
-use Rattle.wy_term.specs.Term.{Of, part, no_parts, denied, all_of, any_of}
-use Rattle.wy_term.specs.Nodes.{tree_at, parts_at}
+use Rattle.wy_check_spec.specs.wy_term.Term.{Of, part, no_parts, denied, all_of, any_of}
+use Rattle.wy_check_spec.specs.wy_term.Nodes.{tree_at, parts_at}
 use Rattle.wy_check_nodes.specs.Seen.{seen_branch}
 use Rattle.wy_check_nodes.proofs.JudgingLemmas.{by_denial, by_all, by_any}
 use Rattle.wy_check_nodes.proofs.judging.by_parts.Goals as goal

@@ -1,5 +1,5 @@
 use Rattle.std.proofs.Common.{◌≡◌, drop, map}
-use Rattle.wy_term.specs.Nodes.{tree_at}
+use Rattle.wy_check_spec.specs.wy_term.Nodes.{tree_at}
 use Rattle.wy_check_nodes.specs.Seen.{seen_branch, seen_formula}
 use Rattle.wy_check_nodes.specs.Judged.{Knows, is_any_refuted}
 use Rattle.wy_check_nodes.proofs.judging.is_refuted.Given as goal

@@ -1,5 +1,5 @@
 use Rattle.std.proofs.Common.{length}
-use Rattle.wy_term.specs.Nodes.{tree_at}
+use Rattle.wy_check_spec.specs.wy_term.Nodes.{tree_at}
 use Rattle.wy_check_nodes.specs.Seen.{seen_branch, AreBelow}
 use Rattle.wy_check_nodes.specs.Judged.{Knows}
 use Rattle.wy_check_nodes.proofs.judging.judge.Given as goal

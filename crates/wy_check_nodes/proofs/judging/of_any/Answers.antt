@@ -1,5 +1,5 @@
 use Rattle.std.proofs.Common.{◌≡◌, ◌<◌, ◌+◌, ◌-◌, length, get_or, true, false, rules, arith}
-use Rattle.wy_term.specs.Nodes.{tree_at}
+use Rattle.wy_check_spec.specs.wy_term.Nodes.{tree_at}
 use Rattle.wy_check_spec.specs.judge.Judgement.{judged}
 use Rattle.wy_check_nodes.specs.Judged.{fails}
 use Rattle.wy_check_nodes.specs.Seen.{seen_branch}

@@ -1,6 +1,6 @@
 use Rattle.std.proofs.Common.{◌≡◌, ℕ, drop, map}
-use Rattle.wy_term.specs.Term.{Term}
-use Rattle.wy_lin.specs.Seen.{seen_part}
+use Rattle.wy_check_spec.specs.wy_term.Term.{Term}
+use Rattle.wy_check_spec.specs.wy_lin.Seen.{seen_part}
 use Rattle.wy_check_spec.specs.valid.Sums.{all_zero}
 use Rattle.wy_check_nodes.proofs.refuting.all_zero.Given as goal
 

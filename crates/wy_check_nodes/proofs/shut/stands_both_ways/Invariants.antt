@@ -1,5 +1,5 @@
 use Rattle.std.proofs.Common.{◌≡◌, drop, map}
-use Rattle.wy_term.specs.Nodes.{tree_at}
+use Rattle.wy_check_spec.specs.wy_term.Nodes.{tree_at}
 use Rattle.wy_check_nodes.specs.Denied.{any_denied}
 use Rattle.wy_check_nodes.specs.Seen.{seen_branch, seen_literal}
 use Rattle.wy_check_spec.specs.valid.Literals.{stands_both_ways}

@@ -1,6 +1,6 @@
 use Rattle.std.proofs.Common.{◌≡◌, ◌∙◌, ℕ, List, true, false, ap, sym, rules}
-use Rattle.wy_term.specs.Term.{Of, all_of, any_of}
-use Rattle.wy_term.specs.Nodes.{tree_at, parts_at}
+use Rattle.wy_check_spec.specs.wy_term.Term.{Of, all_of, any_of}
+use Rattle.wy_check_spec.specs.wy_term.Nodes.{tree_at, parts_at}
 use Rattle.wy_check_nodes.specs.Seen.{seen_branch}
 use Rattle.wy_check_nodes.proofs.StandingLemmas.{and_stands, or_stands}
 use Rattle.wy_check_nodes.proofs.standing.stands_at_once.Goals as goal

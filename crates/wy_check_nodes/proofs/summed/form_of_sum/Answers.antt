@@ -1,9 +1,9 @@
 use Rattle.std.proofs.Common.{◌≡◌, map, length, Some, None, sym, ap, ◌∙◌}
 use Rattle.std.specs.Prelude.{option_map}
-use Rattle.wy_term.specs.Nodes.{tree_at}
+use Rattle.wy_check_spec.specs.wy_term.Nodes.{tree_at}
 use Rattle.wy_check_nodes.specs.Seen.{seen_branch}
-use Rattle.wy_lin.specs.Linear.{nothing}
-use Rattle.wy_lin.specs.Seen.{seen_form}
+use Rattle.wy_check_spec.specs.wy_lin.Linear.{nothing}
+use Rattle.wy_check_spec.specs.wy_lin.Seen.{seen_form}
 use Rattle.wy_check_nodes.specs.Gathered.{gathered}
 use Rattle.wy_check_nodes.proofs.FormLemmas.{seen_length}
 use Rattle.wy_check_nodes.proofs.GatheredLemmas.{gathered_length, none_gathered}

@@ -1,11 +1,11 @@
 use Rattle.std.proofs.Common.{◌≡◌, ◌+◌, ℕ, map, drop, length, get_or, Some, None, sym, ap, subst, ◌∙◌}
 use Rattle.std.specs.Prelude.{option_map, IfSome}
 use Rattle.std.proofs.lemmas.List.{drop_more}
-use Rattle.wy_term.specs.Nodes.{tree_at}
+use Rattle.wy_check_spec.specs.wy_term.Nodes.{tree_at}
 use Rattle.wy_check_spec.specs.judge.Node.{Node}
 use Rattle.wy_check_spec.proofs.wy_facts_proofs.StepLemmas.{stays_on}
 use Rattle.wy_check_nodes.specs.Seen.{seen_branch}
-use Rattle.wy_lin.specs.Seen.{IsOver, linear_form, seen_form}
+use Rattle.wy_check_spec.specs.wy_lin.Seen.{IsOver, linear_form, seen_form}
 use Rattle.wy_check_nodes.specs.Gathered.{weighed, prefixed, gathered}
 use Rattle.wy_check_nodes.proofs.SumsBranchLemmas.{branch_stays, node_stays}
 use Rattle.wy_check_nodes.proofs.FormLemmas.{forms_pushed, pushed_over}

@@ -1,8 +1,8 @@
 use Rattle.std.proofs.Common.{◌≡◌, map, length, drop}
-use Rattle.wy_term.specs.Nodes.{tree_at}
+use Rattle.wy_check_spec.specs.wy_term.Nodes.{tree_at}
 use Rattle.wy_check_spec.specs.wy_facts.Seen.{Stays}
 use Rattle.wy_check_nodes.specs.Seen.{seen_branch}
-use Rattle.wy_lin.specs.Seen.{seen_form}
+use Rattle.wy_check_spec.specs.wy_lin.Seen.{seen_form}
 use Rattle.wy_check_nodes.specs.Gathered.{prefixed, gathered}
 use Rattle.wy_check_nodes.proofs.FormLemmas.{AreForms}
 use Rattle.wy_check_nodes.proofs.summed.gathered.Given as goal

@@ -1,5 +1,5 @@
 use Rattle.std.proofs.Common.{◌<◌, ℕ, All, length, sym, subst, ◌∙◌, arith}
-use Rattle.wy_term.specs.Nodes.{tree_at}
+use Rattle.wy_check_spec.specs.wy_term.Nodes.{tree_at}
 use Rattle.wy_check_nodes.proofs.GatheredLemmas.{placed_below, sum_is, sum_over}
 use Rattle.wy_check_nodes.proofs.summed.sum_of.Goals as goal
 

@@ -1,5 +1,5 @@
 use Rattle.std.proofs.Common.{◌∙◌, ap, sym, subst, length}
-use Rattle.wy_term.specs.Nodes.{tree_at}
+use Rattle.wy_check_spec.specs.wy_term.Nodes.{tree_at}
 use Rattle.wy_check_nodes.specs.Trail.{second_nodes, open_nodes, AreWaiting}
 use Rattle.wy_check_nodes.proofs.TrailLemmas.{closed_nodes, closed_waiting}
 use Rattle.wy_check_nodes.proofs.trail.close.Goals as goal

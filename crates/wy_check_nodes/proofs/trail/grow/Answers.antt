@@ -1,5 +1,5 @@
 use Rattle.std.proofs.Common.{◌∙◌, ap, length}
-use Rattle.wy_term.specs.Nodes.{tree_at}
+use Rattle.wy_check_spec.specs.wy_term.Nodes.{tree_at}
 use Rattle.wy_check_nodes.specs.Trail.{open_nodes}
 use Rattle.wy_check_nodes.proofs.TrailLemmas.{grown_nodes, waiting_grow}
 use Rattle.wy_check_nodes.proofs.trail.grow.Goals as goal

@@ -1,5 +1,5 @@
 use Rattle.std.proofs.Common.{◌≡◌, ◌∙◌, ap, sym, length, List, ℕ, rules}
-use Rattle.wy_term.specs.Nodes.{plain, tree_at}
+use Rattle.wy_check_nodes.specs.wy_term.Nodes.{plain, tree_at}
 use Rattle.wy_check_splits.proofs.ChainLemmas.{other_length}
 use Rattle.wy_check_splits.proofs.alike.are_alike.Goals as goal
 

@@ -1,6 +1,6 @@
 use Rattle.std.proofs.Common.{◌∙◌}
-use Rattle.wy_term.specs.Nodes.{plain}
-use Rattle.wy_term_subst.specs.Substitution.{renumbered}
+use Rattle.wy_check_nodes.specs.wy_term.Nodes.{plain}
+use Rattle.wy_check_nodes.specs.wy_term_subst.Substitution.{renumbered}
 use Rattle.wy_check_splits.proofs.HeadLemmas.{head_is}
 use Rattle.wy_check_splits.proofs.alike.same_head.Goals as goal
 

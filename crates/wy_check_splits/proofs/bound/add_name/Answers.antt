@@ -1,6 +1,6 @@
 use Rattle.std.proofs.Common.{◌∙◌}
 use Rattle.wy_lemmas.proofs.Choices.{cond_or}
-use Rattle.wy_term_subst.specs.View.{same_name}
+use Rattle.wy_check_nodes.specs.wy_term_subst.View.{same_name}
 use Rattle.wy_check_splits.proofs.bound.add_name.Goals as goal
 
 pub returns : goal.returns

@@ -1,7 +1,7 @@
 use Rattle.std.proofs.Common.{◌∙◌, ◌||◌, ap, sym, length, Bool}
 use Rattle.std.specs.HashSet.{contains}
-use Rattle.wy_term.specs.Nodes.{tree_at}
-use Rattle.wy_term_subst.specs.View.{same_name}
+use Rattle.wy_check_nodes.specs.wy_term.Nodes.{tree_at}
+use Rattle.wy_check_nodes.specs.wy_term_subst.View.{same_name}
 use Rattle.wy_check_splits.specs.Walk.{binds_in}
 use Rattle.wy_check_splits.proofs.WalkLemmas.{any_over-last, below_left}
 use Rattle.wy_check_splits.proofs.bound.bound_names.Goals as goal

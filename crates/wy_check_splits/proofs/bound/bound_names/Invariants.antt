@@ -1,8 +1,8 @@
 use Rattle.std.proofs.Common.{◌≡◌, ◌||◌, ℕ, List, length}
 use Rattle.std.specs.HashSet.{contains}
-use Rattle.wy_term.specs.Nodes.{tree_at}
+use Rattle.wy_check_nodes.specs.wy_term.Nodes.{tree_at}
 use Rattle.wy_check_nodes.specs.wy_facts.Seen.{AreBelow}
-use Rattle.wy_term_subst.specs.View.{same_name}
+use Rattle.wy_check_nodes.specs.wy_term_subst.View.{same_name}
 use Rattle.wy_check_nodes.specs.Seen.{seen_branch}
 use Rattle.wy_check_nodes.specs.wy_check_spec.valid.Ranges.{binds_it, any_in_node}
 use Rattle.wy_check_splits.specs.Walk.{any_over, binds_in}

@@ -1,7 +1,7 @@
 use Rattle.std.proofs.Common.{◌∙◌}
 use Rattle.std.specs.HashSet.{contains}
-use Rattle.wy_term.specs.Nodes.{plain, tree_at}
-use Rattle.wy_term_subst.specs.View.{same_name}
+use Rattle.wy_check_nodes.specs.wy_term.Nodes.{plain, tree_at}
+use Rattle.wy_check_nodes.specs.wy_term_subst.View.{same_name}
 use Rattle.wy_check_nodes.specs.wy_check_spec.valid.Ranges.{binds_it}
 use Rattle.wy_check_splits.specs.Walk.{binds_in}
 use Rattle.wy_check_splits.proofs.WalkLemmas.{note_told}

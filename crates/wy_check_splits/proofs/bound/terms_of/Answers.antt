@@ -1,5 +1,5 @@
 use Rattle.std.proofs.Common.{refl}
-use Rattle.wy_term.specs.Nodes.{tree_at}
+use Rattle.wy_check_nodes.specs.wy_term.Nodes.{tree_at}
 use Rattle.wy_check_nodes.specs.wy_check_spec.valid.Ranges.{binds_it}
 use Rattle.wy_check_splits.specs.Walk.{binds_in}
 use Rattle.wy_check_splits.proofs.WalkLemmas.{node_told}

@@ -1,5 +1,5 @@
 use Rattle.std.proofs.Common.{◌≡◌, ◌<◌, List, length, drop}
-use Rattle.wy_term.specs.Nodes.{tree_at}
+use Rattle.wy_check_nodes.specs.wy_term.Nodes.{tree_at}
 use Rattle.wy_check_nodes.specs.wy_check_spec.judge.Node.{Literal}
 use Rattle.wy_check_nodes.specs.wy_facts.Seen.{terms_at}
 use Rattle.wy_check_nodes.specs.wy_check_spec.valid.Literals.{is_chain}

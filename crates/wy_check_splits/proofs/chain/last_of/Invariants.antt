@@ -1,5 +1,5 @@
 use Rattle.std.proofs.Common.{◌≡◌, ◌<◌, length, drop}
-use Rattle.wy_term.specs.Nodes.{tree_at}
+use Rattle.wy_check_nodes.specs.wy_term.Nodes.{tree_at}
 use Rattle.wy_check_nodes.specs.wy_facts.Seen.{terms_at}
 use Rattle.wy_check_nodes.specs.wy_check_spec.valid.Literals.{last_of}
 use Rattle.wy_check_splits.proofs.chain.last_of.Given as goal

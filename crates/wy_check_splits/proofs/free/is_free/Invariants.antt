@@ -1,5 +1,5 @@
 use Rattle.std.proofs.Common.{◌≡◌, length}
-use Rattle.wy_term.specs.Nodes.{tree_at}
+use Rattle.wy_check_nodes.specs.wy_term.Nodes.{tree_at}
 use Rattle.wy_check_nodes.specs.wy_facts.Seen.{AreBelow}
 use Rattle.wy_check_splits.specs.Free.{stands_free}
 use Rattle.wy_check_splits.specs.Walk.{any_over, free_in}

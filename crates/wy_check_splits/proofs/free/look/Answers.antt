@@ -1,5 +1,5 @@
 use Rattle.std.proofs.Common.{◌∙◌, ◌||◌, ap, sym, Bool}
-use Rattle.wy_term.specs.Nodes.{plain, tree_at}
+use Rattle.wy_check_nodes.specs.wy_term.Nodes.{plain, tree_at}
 use Rattle.wy_check_splits.specs.Free.{stands_free, open_parts}
 use Rattle.wy_check_splits.specs.Walk.{any_over, free_in}
 use Rattle.wy_check_splits.proofs.WalkLemmas.{look_told}

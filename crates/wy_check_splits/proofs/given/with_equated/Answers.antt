@@ -1,4 +1,4 @@
-use Rattle.wy_term.specs.Nodes.{tree_at}
+use Rattle.wy_check_nodes.specs.wy_term.Nodes.{tree_at}
 use Rattle.wy_check_nodes.specs.wy_facts.Seen.{terms_at}
 use Rattle.wy_check_splits.proofs.GivenLemmas.{equated_more}
 use Rattle.wy_check_splits.proofs.given.with_equated.Goals as goal

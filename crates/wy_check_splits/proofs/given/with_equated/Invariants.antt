@@ -1,5 +1,5 @@
 use Rattle.std.proofs.Common.{◌≡◌, ◌∷◌, ◌++◌, drop, map, length}
-use Rattle.wy_term.specs.Nodes.{tree_at}
+use Rattle.wy_check_nodes.specs.wy_term.Nodes.{tree_at}
 use Rattle.wy_check_nodes.specs.wy_facts.Seen.{terms_at, AreBelow}
 use Rattle.wy_check_nodes.specs.Seen.{seen_branch, seen_literal}
 use Rattle.wy_check_nodes.specs.wy_check_spec.valid.Kinds.{equated_to}

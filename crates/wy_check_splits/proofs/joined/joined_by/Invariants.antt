@@ -1,5 +1,5 @@
 use Rattle.std.proofs.Common.{map, take, length}
-use Rattle.wy_term.specs.Nodes.{tree_at}
+use Rattle.wy_check_nodes.specs.wy_term.Nodes.{tree_at}
 use Rattle.wy_check_nodes.specs.Seen.{seen_literal}
 use Rattle.wy_check_splits.specs.Joined.{Notes}
 use Rattle.wy_check_splits.proofs.joined.joined_by.Given as goal

@@ -1,7 +1,7 @@
 use Rattle.std.proofs.Common.{◌≡◌, ◌<◌, ◌∷◌, [], length, rules, refl}
 use Rattle.std.specs.HashSet.{contains}
-use Rattle.wy_term.specs.Term.{two, equal, at_most, part, no_parts}
-use Rattle.wy_term.specs.Nodes.{plain, tree_at}
+use Rattle.wy_check_nodes.specs.wy_term.Term.{two, equal, at_most, part, no_parts}
+use Rattle.wy_check_nodes.specs.wy_term.Nodes.{plain, tree_at}
 use Rattle.wy_check_splits.specs.Joined.{same_pair}
 use Rattle.wy_check_splits.proofs.JoinedLemmas.{Forward, forward, two_below, pair_put, pair_kept}
 use Rattle.wy_check_splits.proofs.joined.note.Goals as goal

@@ -1,6 +1,6 @@
 use Rattle.std.proofs.Common.{◌≡◌, map, rules}
-use Rattle.wy_term.specs.Term.{Of, fields}
-use Rattle.wy_term.specs.Nodes.{tree_at, parts_at}
+use Rattle.wy_check_nodes.specs.wy_term.Term.{Of, fields}
+use Rattle.wy_check_nodes.specs.wy_term.Nodes.{tree_at, parts_at}
 use Rattle.wy_check_splits.proofs.KindLemmas.{record_given}
 use Rattle.wy_check_splits.proofs.kinds.kind_given.Goals as goal
 

@@ -1,5 +1,5 @@
 use Rattle.std.proofs.Common.{◌≡◌, true, false, rules}
-use Rattle.wy_term.specs.Nodes.{plain_kind}
+use Rattle.wy_check_nodes.specs.wy_term.Nodes.{plain_kind}
 use Rattle.wy_check_nodes.specs.wy_facts.Seen.{terms_at}
 use Rattle.wy_check_splits.proofs.CommonLemmas.{pair_apart, if_common}
 use Rattle.wy_check_splits.proofs.meeting.group_meets.Goals as goal

@@ -1,4 +1,4 @@
-use Rattle.wy_term.specs.Nodes.{tree_at}
+use Rattle.wy_check_nodes.specs.wy_term.Nodes.{tree_at}
 use Rattle.wy_check_splits.specs.Groups.{of_group, kinded, in_kinds}
 use Rattle.wy_check_splits.proofs.CommonLemmas.{met_now, if_met_later}
 use Rattle.wy_check_splits.proofs.meeting.groups_meet.Goals as goal

@@ -1,7 +1,7 @@
 use Rattle.std.proofs.Common.{◌≡◌, ◌∙◌, ◌<◌, ◌+◌, get_or, drop, length, sym, true, false, nat_eq, rules}
 use Rattle.std.specs.HashSet.{contains}
 use Rattle.std.proofs.lemmas.List.{drop_more}
-use Rattle.wy_term.specs.Nodes.{tree_at}
+use Rattle.wy_check_nodes.specs.wy_term.Nodes.{tree_at}
 use Rattle.wy_check_nodes.specs.wy_facts.Seen.{terms_at}
 use Rattle.wy_check_nodes.proofs.NameLemmas.{NamesOnce, names_once}
 use Rattle.wy_check_splits.proofs.CommonLemmas.{one_of_is_in, common_now, common_later}

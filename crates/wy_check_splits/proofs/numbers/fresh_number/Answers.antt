@@ -1,5 +1,5 @@
 use Rattle.std.proofs.Common.{[]}
-use Rattle.wy_term.specs.Nodes.{tree_at}
+use Rattle.wy_check_nodes.specs.wy_term.Nodes.{tree_at}
 use Rattle.wy_check_splits.proofs.NumbersLemmas.{counts_node}
 use Rattle.wy_check_splits.proofs.numbers.fresh_number.Goals as goal
 

@@ -1,5 +1,5 @@
 use Rattle.std.proofs.Common.{length}
-use Rattle.wy_term.specs.Nodes.{tree_at}
+use Rattle.wy_check_nodes.specs.wy_term.Nodes.{tree_at}
 use Rattle.wy_check_splits.proofs.NumbersLemmas.{counts_more, over_at}
 use Rattle.wy_check_splits.proofs.numbers.take_all.Goals as goal
 

@@ -1,6 +1,6 @@
 use Rattle.std.proofs.Common.{◌++◌, ℕ, List, take}
-use Rattle.wy_term.specs.Nodes.{tree_at}
-use Rattle.wy_term_subst.specs.View.{Counts}
+use Rattle.wy_check_nodes.specs.wy_term.Nodes.{tree_at}
+use Rattle.wy_check_nodes.specs.wy_term_subst.View.{Counts}
 use Rattle.wy_check_splits.specs.Numbers.{numbers_of}
 use Rattle.wy_check_splits.proofs.numbers.take_all.Given as goal
 

@@ -1,6 +1,6 @@
 use Rattle.std.proofs.Common.{ℕ, List, subst}
-use Rattle.wy_term.specs.Nodes.{tree_at}
-use Rattle.wy_term_subst.specs.View.{Counts, noted_numbers}
+use Rattle.wy_check_nodes.specs.wy_term.Nodes.{tree_at}
+use Rattle.wy_check_nodes.specs.wy_term_subst.View.{Counts, noted_numbers}
 use Rattle.wy_check_splits.proofs.NumbersLemmas.{counts_term}
 use Rattle.wy_check_splits.proofs.numbers.take_term.Goals as goal
 

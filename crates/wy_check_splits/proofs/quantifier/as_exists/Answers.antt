@@ -1,7 +1,7 @@
 use Rattle.std.proofs.Common.{◌≡◌, rules, sym, ap, ◌∙◌}
 use Rattle.wy_lemmas.proofs.Options.{some}
-use Rattle.wy_term.specs.Term.{Of, no_parts, part, exists}
-use Rattle.wy_term.specs.Nodes.{tree_at}
+use Rattle.wy_check_nodes.specs.wy_term.Term.{Of, no_parts, part, exists}
+use Rattle.wy_check_nodes.specs.wy_term.Nodes.{tree_at}
 use Rattle.wy_check_nodes.specs.wy_check_spec.valid.Ranges.{as_exists}
 use Rattle.wy_check_splits.proofs.quantifier.as_exists.Goals as goal
 

@@ -1,7 +1,7 @@
 use Rattle.std.proofs.Common.{◌≡◌, drop}
 use Rattle.std.specs.HashSet.{contains}
-use Rattle.wy_term.specs.Nodes.{tree_at}
-use Rattle.wy_term_subst.specs.View.{same_name, any_at}
+use Rattle.wy_check_nodes.specs.wy_term.Nodes.{tree_at}
+use Rattle.wy_check_nodes.specs.wy_term_subst.View.{same_name, any_at}
 use Rattle.wy_check_splits.specs.Free.{is_caught}
 use Rattle.wy_check_splits.proofs.splitting.any_caught.Given as goal
 

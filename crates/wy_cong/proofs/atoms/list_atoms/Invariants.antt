@@ -1,5 +1,5 @@
 use Rattle.std.proofs.Common.{◌≡◌, ◌∷◌, [], length, map}
-use Rattle.wy_check_nodes.specs.Seen.{AreBelow}
+use Rattle.wy_check_splits.specs.wy_check_nodes.Seen.{AreBelow}
 use Rattle.wy_cong.proofs.atoms.list_atoms.Given as goal
 use Rattle.wy_cong.specs.Atoms.{AreAtoms}
 use Rattle.wy_cong.specs.Once.{atoms_at, once}

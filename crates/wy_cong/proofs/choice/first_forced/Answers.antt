@@ -4,8 +4,8 @@ use Rattle.wy_cong.proofs.NearestLemmas.{below_found, nearest_begin, nearest_end
 use Rattle.wy_cong.proofs.UnmetLemmas.{within_at}
 use Rattle.wy_cong.proofs.choice.first_forced.Goals as goal
 use Rattle.wy_cong.specs.Reached.{IsNearer}
-use Rattle.wy_check_spec.specs.judge.Node.{Node}
-use Rattle.wy_check_nodes.specs.Seen.{seen_branch}
+use Rattle.wy_search_spec.specs.wy_check_spec.judge.Node.{Node}
+use Rattle.wy_check_splits.specs.wy_check_nodes.Seen.{seen_branch}
 use Rattle.wy_term.specs.Nodes.{tree_at}
 
 pub loop-i-init : goal.loop-i-init

@@ -2,7 +2,7 @@ use Rattle.std.proofs.Common.{drop}
 use Rattle.wy_cong.proofs.NearestLemmas.{SoFar}
 use Rattle.wy_cong.proofs.choice.first_forced.Given as goal
 use Rattle.wy_cong.specs.Once.{SameBranch}
-use Rattle.wy_check_nodes.specs.Seen.{IsBranch, seen_branch}
+use Rattle.wy_check_splits.specs.wy_check_nodes.Seen.{IsBranch, seen_branch}
 use Rattle.wy_term.specs.Nodes.{tree_at}
 
 -- of what was looked at, none forces an atom before the place, and the one at the place is forced

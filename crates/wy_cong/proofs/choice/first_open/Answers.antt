@@ -1,7 +1,7 @@
 use Rattle.std.proofs.Common.{◌≡◌, ◌∙◌, false, true, length, rules}
 use Rattle.std.proofs.lemmas.Result.{IfOk-weaker}
-use Rattle.wy_check_nodes.proofs.BranchLemmas.{over_get}
-use Rattle.wy_check_nodes.specs.Seen.{seen_branch}
+use Rattle.wy_check_splits.proofs.wy_check_nodes_proofs.BranchLemmas.{over_get}
+use Rattle.wy_check_splits.specs.wy_check_nodes.Seen.{seen_branch}
 use Rattle.wy_search_spec.specs.Splitting.{is_open}
 use Rattle.wy_cong.proofs.FirstLemmas.{open_here, open_later}
 use Rattle.wy_cong.proofs.choice.first_open.Goals as goal

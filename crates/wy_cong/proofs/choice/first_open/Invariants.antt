@@ -1,6 +1,6 @@
 use Rattle.std.proofs.Common.{◌≡◌, drop, map}
-use Rattle.wy_check_nodes.specs.Judged.{Knows}
-use Rattle.wy_check_nodes.specs.Seen.{seen_branch, seen_formula}
+use Rattle.wy_check_splits.specs.wy_check_nodes.Judged.{Knows}
+use Rattle.wy_check_splits.specs.wy_check_nodes.Seen.{seen_branch, seen_formula}
 use Rattle.wy_search_spec.specs.Splitting.{first_open}
 use Rattle.wy_cong.proofs.choice.first_open.Given as goal
 use Rattle.wy_term.specs.Nodes.{tree_at}

@@ -1,5 +1,5 @@
 use Rattle.std.proofs.Common.{◌≡◌, ◌∙◌, ℕ, List, [], ap, length, map, rules}
-use Rattle.wy_check_nodes.specs.Seen.{seen_branch}
+use Rattle.wy_check_splits.specs.wy_check_nodes.Seen.{seen_branch}
 use Rattle.wy_search_spec.specs.Splitting.{atoms_in}
 use Rattle.wy_cong.proofs.FirstLemmas.{once_undecided}
 use Rattle.wy_cong.proofs.choice.first_undecided.Goals as goal

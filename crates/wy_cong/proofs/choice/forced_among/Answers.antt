@@ -5,7 +5,7 @@ use Rattle.wy_cong.proofs.NearestLemmas.{none_forced}
 use Rattle.wy_cong.proofs.OnceLemmas.{plain_listed}
 use Rattle.wy_cong.proofs.choice.forced_among.Goals as goal
 use Rattle.wy_cong.specs.Once.{first_by}
-use Rattle.wy_check_nodes.specs.Seen.{seen_branch}
+use Rattle.wy_check_splits.specs.wy_check_nodes.Seen.{seen_branch}
 use Rattle.wy_search_spec.specs.Splitting.{atoms_of, is_forced}
 use Rattle.wy_term.specs.Nodes.{tree_at}
 

@@ -2,7 +2,7 @@ use Rattle.std.proofs.Common.{◌∙◌, ap}
 use Rattle.wy_cong.proofs.NearestLemmas.{forced_by_all}
 use Rattle.wy_cong.proofs.choice.forced_by_any.Goals as goal
 use Rattle.wy_cong.specs.Once.{first_by, undecided}
-use Rattle.wy_check_nodes.specs.Seen.{seen_branch}
+use Rattle.wy_check_splits.specs.wy_check_nodes.Seen.{seen_branch}
 use Rattle.wy_search_spec.specs.Splitting.{atoms_of}
 use Rattle.wy_term.specs.Nodes.{tree_at}
 

@@ -1,8 +1,8 @@
 use Rattle.std.proofs.Common.{◌≡◌, ◌∙◌, ◌≤◌, ◌<◌, true, false, length, arith, None, Some, rules, sym}
 use Rattle.wy_cong.proofs.NearestLemmas.{nearer_later, nearer_not, nearer_now, nearer_nowhere}
 use Rattle.wy_cong.proofs.choice.nearer.Goals as goal
-use Rattle.wy_check_nodes.proofs.NameLemmas.{NamesOnce, names_once}
-use Rattle.wy_check_nodes.specs.Seen.{seen_branch}
+use Rattle.wy_check_splits.proofs.wy_check_nodes_proofs.NameLemmas.{NamesOnce, names_once}
+use Rattle.wy_check_splits.specs.wy_check_nodes.Seen.{seen_branch}
 use Rattle.wy_term.specs.Nodes.{tree_at}
 
 pub returns-in_default-clause-value : goal.returns-in_default-clause-value

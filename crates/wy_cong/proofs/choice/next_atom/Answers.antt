@@ -1,7 +1,7 @@
 use Rattle.std.proofs.Common.{◌≡◌, ◌∙◌, None, Some, ap, option_map, rules, sym}
 use Rattle.std.proofs.lemmas.Result.{IfOk-weaker}
-use Rattle.wy_check_spec.specs.judge.Node.{Node}
-use Rattle.wy_check_nodes.specs.Seen.{seen_branch}
+use Rattle.wy_search_spec.specs.wy_check_spec.judge.Node.{Node}
+use Rattle.wy_check_splits.specs.wy_check_nodes.Seen.{seen_branch}
 use Rattle.wy_search_spec.specs.Splitting.{atoms_of, first_forced, first_open}
 use Rattle.wy_cong.proofs.DecidingLemmas.{seen_same}
 use Rattle.wy_cong.proofs.FirstLemmas.{by_force, by_turn}

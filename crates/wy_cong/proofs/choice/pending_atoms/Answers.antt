@@ -1,9 +1,9 @@
 use Rattle.std.proofs.Common.{ℕ, List, [], ap, length, map}
-use Rattle.wy_check_nodes.proofs.BranchLemmas.{over_get}
+use Rattle.wy_check_splits.proofs.wy_check_nodes_proofs.BranchLemmas.{over_get}
 use Rattle.wy_cong.proofs.FirstLemmas.{atoms_behind}
 use Rattle.wy_cong.proofs.choice.pending_atoms.Goals as goal
 use Rattle.wy_cong.specs.Once.{once}
-use Rattle.wy_check_nodes.specs.Seen.{seen_branch}
+use Rattle.wy_check_splits.specs.wy_check_nodes.Seen.{seen_branch}
 use Rattle.wy_search_spec.specs.Splitting.{atoms_of}
 use Rattle.wy_term.specs.Nodes.{tree_at}
 

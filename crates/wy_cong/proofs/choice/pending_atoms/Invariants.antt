@@ -1,5 +1,5 @@
 use Rattle.std.proofs.Common.{◌≡◌, [], drop, length, map}
-use Rattle.wy_check_nodes.specs.Seen.{seen_branch, seen_formula}
+use Rattle.wy_check_splits.specs.wy_check_nodes.Seen.{seen_branch, seen_formula}
 use Rattle.wy_search_spec.specs.Splitting.{atoms_of}
 use Rattle.wy_cong.proofs.choice.pending_atoms.Given as goal
 use Rattle.wy_cong.specs.Atoms.{AreAtoms}

@@ -1,5 +1,5 @@
 use Rattle.std.proofs.Common.{◌≡◌, ◌∙◌, false, true, length, rules, sym}
-use Rattle.wy_check_nodes.specs.Seen.{seen_branch}
+use Rattle.wy_check_splits.specs.wy_check_nodes.Seen.{seen_branch}
 use Rattle.wy_cong.proofs.FirstLemmas.{below_at, passes_here, passes_later}
 use Rattle.wy_cong.proofs.choice.undecided_in.Goals as goal
 use Rattle.wy_cong.specs.Once.{undecided}

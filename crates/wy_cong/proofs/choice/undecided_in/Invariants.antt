@@ -1,5 +1,5 @@
 use Rattle.std.proofs.Common.{◌≡◌, drop, map}
-use Rattle.wy_check_nodes.specs.Seen.{seen_branch}
+use Rattle.wy_check_splits.specs.wy_check_nodes.Seen.{seen_branch}
 use Rattle.wy_cong.proofs.choice.undecided_in.Given as goal
 use Rattle.wy_cong.specs.Once.{first_by, undecided}
 use Rattle.wy_term.specs.Nodes.{tree_at}

@@ -1,8 +1,8 @@
 use Rattle.std.proofs.Common.{◌≡◌, ◌∙◌, ◌++◌, ◌||◌, ℕ, [], ◌∷◌, Bool, List, ap, arith, eqb, false, length, refl, rules, subst, sym, true, vec_len}
 use Rattle.std.proofs.lemmas.Bool.{eqb-true}
 use Rattle.wy_term.specs.Nodes.{tree_at}
-use Rattle.wy_check_nodes.specs.Seen.{seen_branch}
-use Rattle.wy_check_spec.specs.valid.Kinds.{Kinded, in_one_kind, in_two_kinds}
+use Rattle.wy_check_splits.specs.wy_check_nodes.Seen.{seen_branch}
+use Rattle.wy_search_spec.specs.wy_check_spec.valid.Kinds.{Kinded, in_one_kind, in_two_kinds}
 use Rattle.wy_search_spec.specs.Classes.{any_kinds, kinds_by, own_kinds}
 use Rattle.wy_cong.specs.Kinded.{kinded}
 use Rattle.wy_cong.specs.Seen.{terms_of}

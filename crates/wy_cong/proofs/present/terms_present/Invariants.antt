@@ -1,5 +1,5 @@
 use Rattle.std.proofs.Common.{◌≡◌, ◌++◌, drop, map}
-use Rattle.wy_check_nodes.specs.Seen.{seen_formula}
+use Rattle.wy_check_splits.specs.wy_check_nodes.Seen.{seen_formula}
 use Rattle.wy_search_spec.specs.Standing.{only_terms}
 use Rattle.wy_term.specs.Nodes.{tree_at}
 use Rattle.wy_cong.specs.Seen.{terms_of, IsPresent}

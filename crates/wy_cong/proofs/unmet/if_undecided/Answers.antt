@@ -1,7 +1,7 @@
 use Rattle.std.proofs.Common.{◌≡◌, ◌∙◌, true, false, sym, rules}
 use Rattle.wy_cong.proofs.MoreLemmas.{atom_stays}
 use Rattle.wy_cong.proofs.unmet.if_undecided.Goals as goal
-use Rattle.wy_check_nodes.specs.Seen.{seen_branch}
+use Rattle.wy_check_splits.specs.wy_check_nodes.Seen.{seen_branch}
 use Rattle.wy_term.specs.Nodes.{tree_at}
 
 pub returns-clause-open : goal.returns-clause-open

@@ -2,7 +2,7 @@ use Rattle.std.proofs.Common.{◌≡◌, true, rules}
 use Rattle.wy_cong.proofs.MoreLemmas.{met_safe}
 use Rattle.wy_cong.proofs.unmet.is_safe.Goals as goal
 use Rattle.wy_cong.specs.Unmet.{meets}
-use Rattle.wy_check_nodes.specs.Seen.{seen_branch}
+use Rattle.wy_check_splits.specs.wy_check_nodes.Seen.{seen_branch}
 use Rattle.wy_term.specs.Nodes.{tree_at}
 
 pub returns-then-meets : goal.returns-then-meets

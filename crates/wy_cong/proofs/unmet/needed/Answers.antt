@@ -2,7 +2,7 @@ use Rattle.std.proofs.Common.{◌≡◌, ◌∙◌, ℕ, List, true, false, ap, 
 use Rattle.std.proofs.lemmas.Result.{IfOk-weaker}
 use Rattle.wy_cong.proofs.MoreLemmas.{and_needed, or_needed, self_needed}
 use Rattle.wy_cong.proofs.unmet.needed.Goals as goal
-use Rattle.wy_check_nodes.specs.Seen.{seen_branch}
+use Rattle.wy_check_splits.specs.wy_check_nodes.Seen.{seen_branch}
 use Rattle.wy_term.specs.Nodes.{parts_at, tree_at}
 use Rattle.wy_term.specs.Term.{Of, all_of, any_of}
 

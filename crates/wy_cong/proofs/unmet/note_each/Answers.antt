@@ -2,7 +2,7 @@ use Rattle.std.proofs.Common.{◌≡◌, ◌∙◌, ℕ, List, [], ap, length, m
 use Rattle.wy_cong.proofs.UnmetLemmas.{shared_in, where_ok}
 use Rattle.wy_cong.proofs.unmet.note_each.Goals as goal
 use Rattle.wy_cong.specs.Once.{once}
-use Rattle.wy_check_nodes.specs.Seen.{seen_formula}
+use Rattle.wy_check_splits.specs.wy_check_nodes.Seen.{seen_formula}
 use Rattle.wy_search_spec.specs.Splitting.{atoms_in}
 use Rattle.wy_term.specs.Nodes.{tree_at}
 

@@ -5,8 +5,8 @@ use Rattle.wy_cong.proofs.UnmetLemmas.{shared_end, shared_with, shared_without, 
 use Rattle.wy_cong.proofs.unmet.note_shared.Goals as goal
 use Rattle.std.specs.Prelude.{is_none}
 use Rattle.wy_items.specs.few.Places.{number_place}
-use Rattle.wy_check_spec.specs.judge.Node.{has_formula}
-use Rattle.wy_check_nodes.specs.Seen.{seen_formula}
+use Rattle.wy_search_spec.specs.wy_check_spec.judge.Node.{has_formula}
+use Rattle.wy_check_splits.specs.wy_check_nodes.Seen.{seen_formula}
 use Rattle.wy_check_splits.proofs.JoinedLemmas.{Forward, forward}
 use Rattle.wy_term.specs.Nodes.{tree_at}
 

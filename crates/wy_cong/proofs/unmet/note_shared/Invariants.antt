@@ -2,7 +2,7 @@ use Rattle.std.proofs.Common.{drop, length, map}
 use Rattle.wy_cong.proofs.UnmetLemmas.{Leads}
 use Rattle.wy_cong.proofs.unmet.note_shared.Given as goal
 use Rattle.wy_cong.specs.Reached.{AreWithin}
-use Rattle.wy_check_nodes.specs.Seen.{seen_formula}
+use Rattle.wy_check_splits.specs.wy_check_nodes.Seen.{seen_formula}
 use Rattle.wy_term.specs.Nodes.{tree_at}
 
 -- the atoms so far that stand in both lists are noted

@@ -1,7 +1,7 @@
 use Rattle.std.proofs.Common.{◌≡◌, ◌∙◌, ℕ, List, true, false, ap, sym, rules}
 use Rattle.wy_cong.proofs.MoreLemmas.{and_safe_but, or_safe_but}
 use Rattle.wy_cong.proofs.unmet.only_by.Goals as goal
-use Rattle.wy_check_nodes.specs.Seen.{seen_branch}
+use Rattle.wy_check_splits.specs.wy_check_nodes.Seen.{seen_branch}
 use Rattle.wy_term.specs.Nodes.{parts_at, tree_at}
 use Rattle.wy_term.specs.Term.{Of, all_of, any_of}
 

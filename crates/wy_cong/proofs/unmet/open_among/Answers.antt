@@ -1,6 +1,6 @@
 use Rattle.wy_cong.proofs.UnmetLemmas.{open_here}
 use Rattle.wy_cong.proofs.unmet.open_among.Goals as goal
-use Rattle.wy_check_nodes.specs.Seen.{seen_branch}
+use Rattle.wy_check_splits.specs.wy_check_nodes.Seen.{seen_branch}
 use Rattle.wy_term.specs.Nodes.{tree_at}
 
 pub returns-then-is_another-clause-open : goal.returns-then-is_another-clause-open

@@ -2,7 +2,7 @@ use Rattle.std.proofs.Common.{◌≡◌, true, inr, length, rules}
 use Rattle.wy_cong.proofs.FirstLemmas.{below_at}
 use Rattle.wy_cong.proofs.UnmetLemmas.{part_here}
 use Rattle.wy_cong.proofs.unmet.open_members.Goals as goal
-use Rattle.wy_check_nodes.specs.Seen.{seen_branch}
+use Rattle.wy_check_splits.specs.wy_check_nodes.Seen.{seen_branch}
 use Rattle.wy_search_spec.specs.Splitting.{is_open}
 use Rattle.wy_term.specs.Nodes.{tree_at}
 

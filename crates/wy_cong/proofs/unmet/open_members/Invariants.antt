@@ -1,8 +1,8 @@
 use Rattle.std.proofs.Common.{◌<◌, length}
 use Rattle.wy_cong.proofs.unmet.open_members.Given as goal
 use Rattle.wy_cong.specs.Unmet.{IsSelfOrOpen}
-use Rattle.wy_check_nodes.specs.Judged.{Knows}
-use Rattle.wy_check_nodes.specs.Seen.{seen_branch}
+use Rattle.wy_check_splits.specs.wy_check_nodes.Judged.{Knows}
+use Rattle.wy_check_splits.specs.wy_check_nodes.Seen.{seen_branch}
 use Rattle.wy_term.specs.Nodes.{parts_at, tree_at}
 
 -- it is the formula itself, or an open member

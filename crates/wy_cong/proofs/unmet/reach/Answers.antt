@@ -1,7 +1,7 @@
 use Rattle.wy_cong.proofs.UnmetLemmas.{notes_one, within_last}
 use Rattle.std.proofs.Common.{length}
 use Rattle.wy_cong.proofs.unmet.reach.Goals as goal
-use Rattle.wy_check_nodes.specs.Seen.{seen_branch}
+use Rattle.wy_check_splits.specs.wy_check_nodes.Seen.{seen_branch}
 use Rattle.wy_term.specs.Nodes.{tree_at}
 
 pub returns-in-Some-clause-value : goal.returns-in-Some-clause-value

@@ -1,9 +1,9 @@
 use Rattle.std.proofs.Common.{◌≡◌, ◌∙◌, ◌≤◌, true, length, rules, subst}
 use Rattle.wy_cong.proofs.UnmetLemmas.{by_verdict, enough_end, enough_next, no_at}
 use Rattle.wy_cong.proofs.unmet.unmet.Goals as goal
-use Rattle.wy_check_nodes.proofs.BranchLemmas.{over_get}
-use Rattle.wy_check_nodes.specs.Judged.{fails}
-use Rattle.wy_check_nodes.specs.Seen.{seen_branch}
+use Rattle.wy_check_splits.proofs.wy_check_nodes_proofs.BranchLemmas.{over_get}
+use Rattle.wy_check_splits.specs.wy_check_nodes.Judged.{fails}
+use Rattle.wy_check_splits.specs.wy_check_nodes.Seen.{seen_branch}
 use Rattle.wy_term.specs.Nodes.{tree_at}
 
 pub judge-requires-clause-formula : goal.judge-requires-clause-formula

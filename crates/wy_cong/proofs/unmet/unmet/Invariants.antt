@@ -2,8 +2,8 @@ use Rattle.std.proofs.Common.{drop, length}
 use Rattle.wy_cong.proofs.UnmetLemmas.{SoFar}
 use Rattle.wy_cong.proofs.unmet.unmet.Given as goal
 use Rattle.wy_cong.specs.Reached.{AreWithin}
-use Rattle.wy_check_nodes.specs.Judged.{Knows}
-use Rattle.wy_check_nodes.specs.Seen.{seen_branch}
+use Rattle.wy_check_splits.specs.wy_check_nodes.Judged.{Knows}
+use Rattle.wy_check_splits.specs.wy_check_nodes.Seen.{seen_branch}
 use Rattle.wy_term.specs.Nodes.{tree_at}
 
 -- what is left, and behind it what comes, is enough

@@ -1,6 +1,6 @@
 use Rattle.std.proofs.Common.{◌≡◌, ◌∙◌, ◌++◌, ◌∷◌, [], List, ℕ, true, false, nat_eq, length, map, sym, ap, refl, subst, rules}
 use Rattle.std.specs.HashSet.{contains}
-use Rattle.wy_check_nodes.specs.Seen.{seen_formula}
+use Rattle.wy_check_splits.specs.wy_check_nodes.Seen.{seen_formula}
 use Rattle.wy_cong.proofs.BegunLemmas.{bind_on, begun_met}
 use Rattle.wy_cong.proofs.TaskLemmas.{map_last}
 use Rattle.wy_cong.proofs.walk.bind.Goals as goal

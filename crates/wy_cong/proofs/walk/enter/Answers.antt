@@ -1,9 +1,9 @@
 use Rattle.std.proofs.Common.{◌≡◌, ◌≤◌, ◌∙◌, ◌++◌, ◌∷◌, [], List, true, false, nat_eq, length, map, refl, sym, ap, subst, arith, rules}
 use Rattle.std.proofs.lemmas.Result.{IfOk-weaker}
 use Rattle.std.specs.HashSet.{contains}
-use Rattle.wy_check_spec.specs.judge.Node.{has_formula}
-use Rattle.wy_check_nodes.proofs.JudgingLemmas.{below_up}
-use Rattle.wy_check_nodes.specs.Seen.{is_denied, seen_formula, signed, AreBelow}
+use Rattle.wy_search_spec.specs.wy_check_spec.judge.Node.{has_formula}
+use Rattle.wy_check_splits.proofs.wy_check_nodes_proofs.JudgingLemmas.{below_up}
+use Rattle.wy_check_splits.specs.wy_check_nodes.Seen.{is_denied, seen_formula, signed, AreBelow}
 use Rattle.wy_cong.proofs.BegunLemmas.{LeadsTo, begun_on, listed_first, listed_on, next_below, passed_on, visit_first}
 use Rattle.wy_cong.proofs.GoneLemmas.{listed_same}
 use Rattle.wy_cong.proofs.TaskLemmas.{first_below, tasks_behind, three_parts}

@@ -1,11 +1,11 @@
 use Rattle.std.proofs.Common.{[], length, map, ap}
-use Rattle.wy_check_nodes.proofs.BranchLemmas.{bare_put, over_put, pending_put}
-use Rattle.wy_check_nodes.proofs.NameLemmas.{NamesOnce, names_once}
-use Rattle.wy_check_nodes.specs.Seen.{seen_formula}
+use Rattle.wy_check_splits.proofs.wy_check_nodes_proofs.BranchLemmas.{bare_put, over_put, pending_put}
+use Rattle.wy_check_splits.proofs.wy_check_nodes_proofs.NameLemmas.{NamesOnce, names_once}
+use Rattle.wy_check_splits.specs.wy_check_nodes.Seen.{seen_formula}
 use Rattle.wy_cong.proofs.GoneLemmas.{known_there, no_longer}
 use Rattle.wy_cong.proofs.StandingLemmas.{listed_put}
 use Rattle.wy_cong.proofs.walk.list_first.Goals as goal
-use Rattle.wy_check_spec.specs.judge.Node.{Node}
+use Rattle.wy_search_spec.specs.wy_check_spec.judge.Node.{Node}
 use Rattle.wy_term.specs.Nodes.{tree_at}
 
 pub returns-clause-value : goal.returns-clause-value

@@ -1,7 +1,7 @@
 use Rattle.std.proofs.Common.{◌≡◌, ◌∙◌, ◌∷◌, ℕ, List, Bool, [], true, false, nat_eq, length, map, sym, ap, subst, arith, rules}
 use Rattle.std.specs.HashSet.{contains}
-use Rattle.wy_check_spec.specs.judge.Node.{has_formula}
-use Rattle.wy_check_nodes.specs.Seen.{AreBare, AreBelow, AreOver, seen_formula}
+use Rattle.wy_search_spec.specs.wy_check_spec.judge.Node.{has_formula}
+use Rattle.wy_check_splits.specs.wy_check_nodes.Seen.{AreBare, AreBelow, AreOver, seen_formula}
 use Rattle.wy_cong.proofs.StandingLemmas.{all_led, first_below}
 use Rattle.wy_cong.proofs.walk.listed.Goals as goal
 use Rattle.wy_cong.specs.Marks.{with_unmarked}

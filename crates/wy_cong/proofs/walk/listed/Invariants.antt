@@ -1,5 +1,5 @@
 use Rattle.std.proofs.Common.{◌≡◌}
-use Rattle.wy_check_nodes.specs.Seen.{seen_branch}
+use Rattle.wy_check_splits.specs.wy_check_nodes.Seen.{seen_branch}
 use Rattle.wy_search_spec.specs.Standing.{standing}
 use Rattle.wy_cong.proofs.walk.listed.Given as goal
 use Rattle.wy_cong.specs.Begun.{AreBegun}

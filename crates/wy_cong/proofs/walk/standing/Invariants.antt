@@ -1,5 +1,5 @@
 use Rattle.std.proofs.Common.{◌≡◌, drop, map}
-use Rattle.wy_check_nodes.specs.Seen.{seen_branch, seen_formula, IsBranch}
+use Rattle.wy_check_splits.specs.wy_check_nodes.Seen.{seen_branch, seen_formula, IsBranch}
 use Rattle.wy_search_spec.specs.Standing.{standing}
 use Rattle.wy_cong.proofs.walk.standing.Given as goal
 use Rattle.wy_cong.specs.Once.{once}

@@ -1,7 +1,7 @@
 use Rattle.std.proofs.Common.{◌≡◌, ◌≤◌, ◌∙◌, ◌++◌, List, true, false, nat_eq, length, map, sym, ap, subst, arith, rules, vec_len}
 use Rattle.std.specs.HashSet.{contains}
-use Rattle.wy_check_nodes.proofs.JudgingLemmas.{below_up}
-use Rattle.wy_check_nodes.specs.Seen.{AreBelow}
+use Rattle.wy_check_splits.proofs.wy_check_nodes_proofs.JudgingLemmas.{below_up}
+use Rattle.wy_check_splits.specs.wy_check_nodes.Seen.{AreBelow}
 use Rattle.wy_cong.proofs.BegunLemmas.{LeadsTo, begun_still, begun_with, next_below, none_around, passed_on, visit_on}
 use Rattle.wy_cong.proofs.TaskLemmas.{three_parts}
 use Rattle.wy_cong.proofs.walk.visit_again.Goals as goal

@@ -4,7 +4,7 @@ use Rattle.wy_cong.proofs.BegunLemmas.{begun_on, denial_on, listed_on}
 use Rattle.wy_cong.proofs.GoneLemmas.{denial_apart}
 use Rattle.wy_cong.proofs.TaskLemmas.{denial_led}
 use Rattle.wy_cong.proofs.walk.visit_denied.Goals as goal
-use Rattle.wy_check_nodes.specs.Seen.{signed}
+use Rattle.wy_check_splits.specs.wy_check_nodes.Seen.{signed}
 use Rattle.wy_term.specs.Scope.{free_names}
 use Rattle.wy_cong.specs.Marks.{is_any_bound, with_unmarked}
 use Rattle.wy_cong.specs.Walk.{left_at, list_of}

@@ -1,7 +1,7 @@
 use Rattle.std.proofs.Common.{◌≡◌, to_z, of_z, arith}
 use mir.Syntax.{w128}
 use Rattle.std.proofs.lemmas.Int.{ints, to_z-of_z}
-use Rattle.wy_term.specs.Nodes.{tree_at}
+use Rattle.wy_term_subst.specs.wy_term.Nodes.{tree_at}
 use Rattle.wy_facts.proofs.StepLemmas.{numbered_above, numbered_here}
 use Rattle.wy_facts.proofs.arguments.part_numbered.Goals as goal
 

@@ -1,6 +1,6 @@
 use Rattle.std.proofs.Common.{rules}
-use Rattle.wy_term.specs.Condition.{condition_of}
-use Rattle.wy_term.specs.Nodes.{tree_at}
+use Rattle.wy_term_subst.specs.wy_term.Condition.{condition_of}
+use Rattle.wy_term_subst.specs.wy_term.Nodes.{tree_at}
 use Rattle.wy_facts.specs.Seen.{terms_at}
 use Rattle.wy_facts.proofs.MembershipLemmas.{plain_holds}
 use Rattle.wy_facts.proofs.facts.fact.Goals as goal

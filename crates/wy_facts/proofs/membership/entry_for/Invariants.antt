@@ -1,6 +1,6 @@
 use Rattle.std.proofs.Common.{◌≡◌, List, map, drop}
-use Rattle.wy_term.specs.Nodes.{Plain}
-use Rattle.wy_term.specs.Condition.{entry_of}
+use Rattle.wy_term_subst.specs.wy_term.Nodes.{Plain}
+use Rattle.wy_term_subst.specs.wy_term.Condition.{entry_of}
 use Rattle.wy_facts.specs.Membership.{entry_for}
 use Rattle.wy_facts.proofs.membership.entry_for.Given as goal
 

@@ -1,6 +1,6 @@
 use Rattle.wy_facts.proofs.StepLemmas.{stays_on, stays_same}
 use Rattle.wy_prove.proofs.additions.make_additions.Goals as goal
-use Rattle.wy_search_facts.proofs.AddingLemmas.{types_up}
+use Rattle.wy_prove_rounds.proofs.wy_search_facts_proofs.AddingLemmas.{types_up}
 
 pub loop-action-init : goal.loop-action-init
 loop-action-init c = record { draft = c.requires.draft; types = c.requires.types; stays = stays_same c.args.terms.now }

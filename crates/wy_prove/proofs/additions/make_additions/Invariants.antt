@@ -1,7 +1,7 @@
 use Rattle.std.proofs.Common.{length}
 use Rattle.wy_facts.specs.Membership.{AreTypesBelow}
 use Rattle.wy_facts.specs.Seen.{Stays}
-use Rattle.wy_prove_drafts.specs.Draft.{IsDraft}
+use Rattle.wy_prove_rounds.specs.wy_prove_drafts.Draft.{IsDraft}
 use Rattle.wy_prove.proofs.additions.make_additions.Given as goal
 
 abbrev pub invariant-loop-action : goal.invariant-loop-action

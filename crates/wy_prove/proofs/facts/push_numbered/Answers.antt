@@ -1,4 +1,4 @@
-use Rattle.wy_search.proofs.AddingLemmas.{types_up}
+use Rattle.wy_prove_rounds.proofs.wy_search_proofs.AddingLemmas.{types_up}
 use Rattle.wy_prove.proofs.facts.push_numbered.Goals as goal
 
 pub push_fact-requires-clause-types : goal.push_fact-requires-clause-types

@@ -1,6 +1,6 @@
 use Rattle.std.proofs.Common.{arith}
 use Rattle.wy_facts.proofs.StepLemmas.{stays_on}
-use Rattle.wy_search.proofs.AddingLemmas.{types_up}
+use Rattle.wy_prove_rounds.proofs.wy_search_proofs.AddingLemmas.{types_up}
 use Rattle.wy_prove.proofs.facts.push_pairs.Goals as goal
 
 pub push_pair-requires-clause-types : goal.push_pair-requires-clause-types

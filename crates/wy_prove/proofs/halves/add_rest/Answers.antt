@@ -1,5 +1,5 @@
 use Rattle.wy_facts.proofs.StepLemmas.{stays_on}
-use Rattle.wy_search.proofs.AddingLemmas.{types_up}
+use Rattle.wy_prove_rounds.proofs.wy_search_proofs.AddingLemmas.{types_up}
 use Rattle.wy_prove.proofs.halves.add_rest.Goals as goal
 
 pub add_facts-requires-clause-types : goal.add_facts-requires-clause-types

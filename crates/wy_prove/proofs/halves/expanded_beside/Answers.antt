@@ -1,5 +1,5 @@
-use Rattle.wy_search.proofs.SpotLemmas.{spot_stays}
-use Rattle.wy_prove_drafts.proofs.DraftLemmas.{draft_stays}
+use Rattle.wy_prove_rounds.proofs.wy_search_proofs.SpotLemmas.{spot_stays}
+use Rattle.wy_prove_rounds.proofs.wy_prove_drafts_proofs.DraftLemmas.{draft_stays}
 use Rattle.wy_prove.proofs.halves.expanded_beside.Goals as goal
 
 pub make_additions-requires-clause-draft : goal.make_additions-requires-clause-draft

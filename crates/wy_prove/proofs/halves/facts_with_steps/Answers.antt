@@ -1,5 +1,5 @@
 use Rattle.wy_facts.proofs.StepLemmas.{below_kept}
-use Rattle.wy_search.proofs.AddingLemmas.{types_up}
+use Rattle.wy_prove_rounds.proofs.wy_search_proofs.AddingLemmas.{types_up}
 use Rattle.wy_check_nodes.proofs.SumsBranchLemmas.{branch_stays}
 use Rattle.wy_prove.proofs.halves.facts_with_steps.Goals as goal
 

@@ -4,7 +4,7 @@ use Rattle.wy_term.specs.Condition.{Condition, condition_of}
 use Rattle.wy_cert.specs.Steps.{steps_of}
 use Rattle.wy_prove_rounds.specs.wy_check_spec.valid.Validity.{IsValid}
 use Rattle.wy_facts.proofs.StepLemmas.{below_kept, stays_on}
-use Rattle.wy_search.proofs.AddingLemmas.{types_up}
+use Rattle.wy_prove_rounds.proofs.wy_search_proofs.AddingLemmas.{types_up}
 use Rattle.wy_prove.proofs.ConditionLemmas.{condition_stays}
 use Rattle.wy_prove.specs.Walks.{IsFinished}
 use Rattle.wy_prove.proofs.AnswerLemmas.{unwritable_ok}

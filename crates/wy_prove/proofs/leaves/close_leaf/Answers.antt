@@ -5,9 +5,9 @@ use Rattle.wy_facts.proofs.StepLemmas.{stays_on}
 use Rattle.wy_prove_rounds.specs.wy_check_spec.judge.Node.{Node}
 use Rattle.wy_check_nodes.specs.Seen.{seen_branch}
 use Rattle.wy_check_nodes.proofs.SumsBranchLemmas.{branch_stays, node_stays}
-use Rattle.wy_search.specs.StatedSeen.{seen_spot}
+use Rattle.wy_prove_rounds.specs.wy_search.StatedSeen.{seen_spot}
 use Rattle.wy_prove_leaves.specs.wy_search_laws.rounds.Leaves.{IsLeaf}
-use Rattle.wy_prove_drafts.specs.Draft.{seen_draft}
+use Rattle.wy_prove_rounds.specs.wy_prove_drafts.Draft.{seen_draft}
 use Rattle.wy_prove_leaves.specs.linked.Linked.{IsBase}
 use Rattle.wy_prove.specs.Plans.{AreSortedAt, GoesOrEnds}
 use Rattle.wy_prove.proofs.LeafLemmas.{base_on, beside_base, ended_ok, present_are_sorted}

@@ -5,7 +5,7 @@ use Rattle.wy_facts.proofs.StepLemmas.{stays_on}
 use Rattle.wy_prove_rounds.specs.wy_check_spec.judge.Node.{Node}
 use Rattle.wy_check_nodes.specs.Seen.{seen_branch}
 use Rattle.wy_check_nodes.proofs.SumsBranchLemmas.{branch_stays, node_stays}
-use Rattle.wy_prove_drafts.specs.Draft.{seen_draft}
+use Rattle.wy_prove_rounds.specs.wy_prove_drafts.Draft.{seen_draft}
 use Rattle.wy_prove_leaves.specs.linked.Linked.{AreLinkedClasses, IsBase, LinksOrEnds}
 use Rattle.wy_prove_leaves.specs.stated_sums.Refuted.{EndsIfRefuted}
 use Rattle.wy_prove.proofs.LeafLemmas.{base_on, plainly_ok}

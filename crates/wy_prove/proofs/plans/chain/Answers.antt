@@ -3,8 +3,8 @@ use Rattle.wy_term.specs.Nodes.{tree_at}
 use Rattle.wy_term_subst.specs.sorted.Sorted.{IsSorted}
 use Rattle.wy_cert.specs.Steps.{chain}
 use Rattle.wy_facts.specs.Seen.{terms_at}
-use Rattle.wy_prove_drafts.specs.Draft.{seen_draft}
-use Rattle.wy_prove_drafts.proofs.ProgressLemmas.{goes_self, writes_goes}
+use Rattle.wy_prove_rounds.specs.wy_prove_drafts.Draft.{seen_draft}
+use Rattle.wy_prove_rounds.proofs.wy_prove_drafts_proofs.ProgressLemmas.{goes_self, writes_goes}
 use Rattle.wy_prove.proofs.PlanLemmas.{among_all, sorted_terms}
 use Rattle.wy_prove.proofs.plans.chain.Goals as goal
 

@@ -1,6 +1,6 @@
 use Rattle.wy_term.specs.Nodes.{tree_at}
 use Rattle.wy_cert.specs.Steps.{clash}
-use Rattle.wy_prove_drafts.specs.Draft.{seen_draft}
+use Rattle.wy_prove_rounds.specs.wy_prove_drafts.Draft.{seen_draft}
 use Rattle.wy_prove.proofs.LeafLemmas.{closes_ok}
 use Rattle.wy_prove.proofs.plans.clash.Goals as goal
 

@@ -1,8 +1,8 @@
 use Rattle.std.specs.Prelude.{is_some}
 use Rattle.wy_term.specs.Nodes.{tree_at}
 use Rattle.wy_cert.specs.Steps.{cut}
-use Rattle.wy_prove_drafts.specs.Draft.{seen_draft}
-use Rattle.wy_prove_drafts.proofs.ProgressLemmas.{writes_goes}
+use Rattle.wy_prove_rounds.specs.wy_prove_drafts.Draft.{seen_draft}
+use Rattle.wy_prove_rounds.proofs.wy_prove_drafts_proofs.ProgressLemmas.{writes_goes}
 use Rattle.wy_prove.proofs.plans.cut.Goals as goal
 
 pub returns-clause-value : goal.returns-clause-value

@@ -1,8 +1,8 @@
 use Rattle.std.proofs.Common.{◌≡◌, true, false, subst, rules}
 use Rattle.wy_term.specs.Nodes.{tree_at}
 use Rattle.wy_facts.proofs.StepLemmas.{below_kept, stays_on, stays_same}
-use Rattle.wy_prove_drafts.specs.Draft.{seen_draft}
-use Rattle.wy_prove_drafts.proofs.ProgressLemmas.{ends_behind, goes_on, goes_self}
+use Rattle.wy_prove_rounds.specs.wy_prove_drafts.Draft.{seen_draft}
+use Rattle.wy_prove_rounds.proofs.wy_prove_drafts_proofs.ProgressLemmas.{ends_behind, goes_on, goes_self}
 use Rattle.wy_prove.specs.Plans.{GoesOrEnds}
 use Rattle.wy_prove.proofs.PlanLemmas.{sorted_kept}
 use Rattle.wy_prove.proofs.plans.follow.Goals as goal

@@ -2,8 +2,8 @@ use Rattle.std.proofs.Common.{List, length}
 use Rattle.wy_term.specs.Condition.{Entry}
 use Rattle.wy_term.specs.Nodes.{tree_at}
 use Rattle.wy_facts.specs.Seen.{AreBelow, Stays}
-use Rattle.wy_prove_drafts.specs.Draft.{IsDraft, seen_draft}
-use Rattle.wy_prove_drafts.specs.Progress.{Goes}
+use Rattle.wy_prove_rounds.specs.wy_prove_drafts.Draft.{IsDraft, seen_draft}
+use Rattle.wy_prove_rounds.specs.wy_prove_drafts.Progress.{Goes}
 use Rattle.wy_prove.specs.Plans.{AreSortedAt}
 use Rattle.wy_prove.proofs.plans.follow.Given as goal
 

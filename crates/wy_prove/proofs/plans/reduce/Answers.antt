@@ -1,9 +1,9 @@
 use Rattle.std.proofs.Common.{subst}
 use Rattle.std.specs.Prelude.{OnOk}
 use Rattle.wy_term.specs.Nodes.{tree_at}
-use Rattle.wy_prove_drafts.specs.Draft.{seen_draft}
-use Rattle.wy_prove_drafts.specs.Progress.{Progress, Goes}
-use Rattle.wy_prove_drafts.proofs.DraftLemmas.{draft_stays, seen_draft_stays}
+use Rattle.wy_prove_rounds.specs.wy_prove_drafts.Draft.{seen_draft}
+use Rattle.wy_prove_rounds.specs.wy_prove_drafts.Progress.{Progress, Goes}
+use Rattle.wy_prove_rounds.proofs.wy_prove_drafts_proofs.DraftLemmas.{draft_stays, seen_draft_stays}
 use Rattle.wy_prove.proofs.plans.reduce.Goals as goal
 
 pub cut-requires : goal.cut-requires

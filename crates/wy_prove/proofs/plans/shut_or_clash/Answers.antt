@@ -1,7 +1,7 @@
 use Rattle.std.proofs.Common.{◌≡◌, true, false, subst, rules}
 use Rattle.wy_term.specs.Nodes.{tree_at}
 use Rattle.wy_cert.specs.Steps.{shut}
-use Rattle.wy_prove_drafts.specs.Draft.{seen_draft}
+use Rattle.wy_prove_rounds.specs.wy_prove_drafts.Draft.{seen_draft}
 use Rattle.wy_prove.specs.Plans.{GoesOrEnds}
 use Rattle.wy_prove.proofs.LeafLemmas.{behind_ok, closes_so}
 use Rattle.wy_prove.proofs.plans.shut_or_clash.Goals as goal

@@ -1,5 +1,5 @@
 use Rattle.wy_check_nodes.proofs.SumsBranchLemmas.{branch_stays}
-use Rattle.wy_search_bounds.proofs.KnownLemmas.{on_ok_anyway}
+use Rattle.wy_prove_rounds.proofs.wy_search_bounds_proofs.KnownLemmas.{on_ok_anyway}
 use Rattle.wy_prove.proofs.products.push_factors.Goals as goal
 
 pub sides_of-requires-2-clause-branch : goal.sides_of-requires-2-clause-branch

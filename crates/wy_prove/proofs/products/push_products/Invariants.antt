@@ -1,5 +1,5 @@
 use Rattle.wy_facts.specs.Seen.{Stays}
-use Rattle.wy_search.specs.Known.{AreKnown}
+use Rattle.wy_prove_rounds.specs.wy_search.Known.{AreKnown}
 use Rattle.wy_prove.proofs.products.push_products.Given as goal
 
 abbrev pub invariant-loop-i : goal.invariant-loop-i

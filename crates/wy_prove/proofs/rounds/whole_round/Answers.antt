@@ -2,9 +2,9 @@ use Rattle.std.proofs.Common.{◌≡◌, ◌∙◌, ◌<◌, ◌≤◌, true, fa
 use Rattle.wy_term.specs.Nodes.{tree_at}
 use Rattle.wy_term.specs.Condition.{condition_of}
 use Rattle.wy_prove_leaves.specs.wy_search_spec.Expansion.{Spot}
-use Rattle.wy_search.specs.StatedSeen.{seen_spot}
-use Rattle.wy_search.proofs.TurnLemmas.{no_round, round_adds, round_adds_nothing}
-use Rattle.wy_prove_drafts.specs.Draft.{seen_draft}
+use Rattle.wy_prove_rounds.specs.wy_search.StatedSeen.{seen_spot}
+use Rattle.wy_prove_rounds.proofs.wy_search_proofs.TurnLemmas.{no_round, round_adds, round_adds_nothing}
+use Rattle.wy_prove_rounds.specs.wy_prove_drafts.Draft.{seen_draft}
 use Rattle.wy_prove_rounds.specs.Rounds.{IsBeside}
 use Rattle.wy_prove.proofs.TurningLemmas.{sized}
 use Rattle.wy_prove.proofs.rounds.whole_round.Goals as goal

@@ -4,7 +4,7 @@ use Rattle.wy_check_nodes.specs.Seen.{seen_branch}
 use Rattle.wy_check_nodes.proofs.SumsBranchLemmas.{branch_stays}
 use Rattle.wy_cong.specs.Seen.{terms_of}
 use Rattle.wy_prove_leaves.specs.wy_search_spec.Bounds.{ending, ending_by, replaced_forms}
-use Rattle.wy_search.proofs.TurnLemmas.{clashes_so, ends_so}
+use Rattle.wy_prove_rounds.proofs.wy_search_proofs.TurnLemmas.{clashes_so, ends_so}
 use Rattle.wy_prove.specs.Turns.{is_refutation}
 use Rattle.wy_prove.proofs.TurningLemmas.{refutation_is, no_refutation}
 use Rattle.wy_prove.proofs.turning.closing.Goals as goal

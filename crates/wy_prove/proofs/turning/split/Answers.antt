@@ -1,7 +1,7 @@
 use Rattle.std.proofs.Common.{◌∙◌, true, ap}
 use Rattle.wy_term.specs.Nodes.{tree_at}
 use Rattle.wy_prove_leaves.specs.wy_search_spec.Expansion.{Spot}
-use Rattle.wy_search.specs.Turns.{with_side}
+use Rattle.wy_prove_rounds.specs.wy_search.Turns.{with_side}
 use Rattle.wy_prove.proofs.turning.split.Goals as goal
 
 pub with_atom-requires-clause-spot : goal.with_atom-requires-clause-spot

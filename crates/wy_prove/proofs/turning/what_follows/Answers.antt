@@ -2,11 +2,11 @@ use Rattle.std.proofs.Common.{◌≡◌, ◌∙◌, Option, true, false, sym, su
 use Rattle.std.specs.Prelude.{IfOk, IfSome}
 use Rattle.wy_term.specs.Nodes.{tree_at}
 use Rattle.wy_facts.proofs.StepLemmas.{terms_kept}
-use Rattle.wy_search_bounds.proofs.GatherLemmas.{present_stays}
+use Rattle.wy_prove_rounds.proofs.wy_search_bounds_proofs.GatherLemmas.{present_stays}
 use Rattle.wy_check_nodes.specs.Seen.{seen_branch}
 use Rattle.wy_prove_leaves.specs.wy_search_spec.Expansion.{Spot}
-use Rattle.wy_search.specs.StatedSeen.{seen_spot}
-use Rattle.wy_search.proofs.SpotLemmas.{seen_stays, spot_stays}
+use Rattle.wy_prove_rounds.specs.wy_search.StatedSeen.{seen_spot}
+use Rattle.wy_prove_rounds.proofs.wy_search_proofs.SpotLemmas.{seen_stays, spot_stays}
 use Rattle.wy_prove.specs.declared.turning.Plan.{Plan}
 use Rattle.wy_prove.specs.Turns.{IsClosing, IsJudged, IsOpenNode, IsPlanOver}
 use Rattle.wy_prove.proofs.turning.what_follows.Goals as goal

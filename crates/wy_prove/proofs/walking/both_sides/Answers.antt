@@ -1,7 +1,7 @@
 use Rattle.std.proofs.Common.{ap}
 use Rattle.wy_term.specs.Nodes.{tree_at}
-use Rattle.wy_prove_drafts.specs.Draft.{seen_draft}
-use Rattle.wy_prove_drafts.proofs.DraftLemmas.{progress}
+use Rattle.wy_prove_rounds.specs.wy_prove_drafts.Draft.{seen_draft}
+use Rattle.wy_prove_rounds.proofs.wy_prove_drafts_proofs.DraftLemmas.{progress}
 use Rattle.wy_prove.proofs.walking.both_sides.Goals as goal
 
 pub returns-clause-first : goal.returns-clause-first

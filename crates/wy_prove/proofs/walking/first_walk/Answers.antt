@@ -3,8 +3,8 @@ use Rattle.wy_term.specs.Nodes.{tree_at}
 use Rattle.wy_term.specs.Condition.{condition_of}
 use Rattle.wy_prove_rounds.specs.wy_check_spec.judge.Node.{first_node}
 use Rattle.wy_prove_leaves.specs.wy_search_spec.Tree.{first_spot}
-use Rattle.wy_search.specs.StatedSeen.{seen_spot}
-use Rattle.wy_prove_drafts.specs.Draft.{seen_draft}
+use Rattle.wy_prove_rounds.specs.wy_search.StatedSeen.{seen_spot}
+use Rattle.wy_prove_rounds.specs.wy_prove_drafts.Draft.{seen_draft}
 use Rattle.wy_prove.specs.Walks.{seen_waiting, AreWaiting}
 use Rattle.wy_prove.proofs.TrackLemmas.{at_node}
 use Rattle.wy_prove.proofs.SplitLemmas.{first_left}

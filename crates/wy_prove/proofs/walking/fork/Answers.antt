@@ -1,9 +1,9 @@
 use Rattle.std.proofs.Common.{◌≡◌, true, false, map, ap, sym, subst, rules}
 use Rattle.wy_term.specs.Nodes.{tree_at}
 use Rattle.wy_check_nodes.specs.Seen.{seen_branch}
-use Rattle.wy_search.specs.StatedSeen.{seen_spot}
-use Rattle.wy_prove_drafts.specs.Progress.{Splits}
-use Rattle.wy_prove_drafts.specs.Draft.{seen_draft}
+use Rattle.wy_prove_rounds.specs.wy_search.StatedSeen.{seen_spot}
+use Rattle.wy_prove_rounds.specs.wy_prove_drafts.Progress.{Splits}
+use Rattle.wy_prove_rounds.specs.wy_prove_drafts.Draft.{seen_draft}
 use Rattle.wy_prove.specs.Walks.{seen_waiting, AreWaiting}
 use Rattle.wy_prove.proofs.WalkLemmas.{fork_left, fork_never}
 use Rattle.wy_prove.proofs.walking.fork.Goals as goal

@@ -3,9 +3,9 @@ use Rattle.wy_term.specs.Nodes.{tree_at}
 use Rattle.wy_cong.specs.Seen.{terms_of}
 use Rattle.wy_prove_leaves.specs.wy_search_spec.Standing.{present}
 use Rattle.wy_prove_leaves.specs.wy_search_spec.Expansion.{Spot}
-use Rattle.wy_search.specs.StatedSeen.{seen_spot}
+use Rattle.wy_prove_rounds.specs.wy_search.StatedSeen.{seen_spot}
 use Rattle.wy_prove_leaves.specs.wy_search_laws.rounds.Leaves.{IsLeaf}
-use Rattle.wy_prove_drafts.specs.Draft.{seen_draft}
+use Rattle.wy_prove_rounds.specs.wy_prove_drafts.Draft.{seen_draft}
 use Rattle.wy_prove.specs.Plans.{IsEnded}
 use Rattle.wy_prove.specs.Tracks.{IsLeft}
 use Rattle.wy_prove.specs.Walks.{seen_waiting}

@@ -5,9 +5,9 @@ use Rattle.wy_term.specs.Condition.{condition_of}
 use Rattle.wy_prove_leaves.specs.wy_search_spec.Bounds.{ending}
 use Rattle.wy_prove_leaves.specs.wy_search_spec.Splitting.{next_atom}
 use Rattle.wy_prove_leaves.specs.wy_search_spec.Expansion as search
-use Rattle.wy_search.specs.Spot.{Spot}
-use Rattle.wy_search.specs.StatedSeen.{seen_spot, IsSpot}
-use Rattle.wy_prove_drafts.specs.Draft.{seen_draft}
+use Rattle.wy_prove_rounds.specs.wy_search.Spot.{Spot}
+use Rattle.wy_prove_rounds.specs.wy_search.StatedSeen.{seen_spot, IsSpot}
+use Rattle.wy_prove_rounds.specs.wy_prove_drafts.Draft.{seen_draft}
 use Rattle.wy_prove.specs.Turns.{IsOpenNode, IsRound}
 use Rattle.wy_prove.specs.Walks.{seen_waiting}
 use Rattle.wy_prove.proofs.WalkLemmas.{round_never, round_stands, stands_beside, stands_so, waiting_seen, waiting_stay}

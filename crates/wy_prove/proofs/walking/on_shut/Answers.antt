@@ -1,6 +1,6 @@
 use Rattle.std.proofs.Common.{◌≡◌, ◌+◌, true, false, map, refl, subst, rules}
 use Rattle.wy_term.specs.Nodes.{tree_at}
-use Rattle.wy_prove_drafts.specs.Draft.{seen_draft}
+use Rattle.wy_prove_rounds.specs.wy_prove_drafts.Draft.{seen_draft}
 use Rattle.wy_prove.specs.Plans.{IsEnded}
 use Rattle.wy_prove.specs.Walks.{seen_waiting}
 use Rattle.wy_prove.proofs.WalkLemmas.{shut_ends, shut_left, stands_beside}

@@ -1,11 +1,11 @@
 use Rattle.std.proofs.Common.{◌∙◌, map, refl, sym}
 use Rattle.wy_facts.proofs.SharedLemmas.{types_stay}
-use Rattle.wy_search_facts.proofs.AddingLemmas.{types_up}
+use Rattle.wy_prove_rounds.proofs.wy_search_facts_proofs.AddingLemmas.{types_up}
 use Rattle.wy_term.specs.Nodes.{tree_at}
 use Rattle.wy_facts.proofs.StepLemmas.{stays_on}
-use Rattle.wy_search.specs.StatedSeen.{seen_spot}
-use Rattle.wy_prove_drafts.specs.Draft.{seen_draft}
-use Rattle.wy_prove_drafts.proofs.DraftLemmas.{draft_stays, seen_draft_stays}
+use Rattle.wy_prove_rounds.specs.wy_search.StatedSeen.{seen_spot}
+use Rattle.wy_prove_rounds.specs.wy_prove_drafts.Draft.{seen_draft}
+use Rattle.wy_prove_rounds.proofs.wy_prove_drafts_proofs.DraftLemmas.{draft_stays, seen_draft_stays}
 use Rattle.wy_prove.specs.Walks.{seen_waiting}
 use Rattle.wy_prove.proofs.TrackLemmas.{never_spent}
 use Rattle.wy_prove.proofs.WalkLemmas.{stands_so, waiting_seen, waiting_stay}

@@ -1,7 +1,7 @@
 use Rattle.std.proofs.Common.{◌∙◌, ap}
 use Rattle.wy_term.specs.Nodes.{tree_at}
 use Rattle.wy_prove_rounds.specs.wy_check_spec.judge.Node.{Node, denied_one}
-use Rattle.wy_search.proofs.SpotLemmas.{copy_over, same_node}
+use Rattle.wy_prove_rounds.proofs.wy_search_proofs.SpotLemmas.{copy_over, same_node}
 use Rattle.wy_prove.proofs.walking.with_denial.Goals as goal
 
 pub add-requires-clause-branch : goal.add-requires-clause-branch

@@ -1,6 +1,6 @@
 use Rattle.std.proofs.Common.{arith, sym, subst}
 use Rattle.wy_facts.proofs.SharedLemmas.{types_stay}
-use Rattle.wy_search_facts.proofs.AddingLemmas.{types_up}
+use Rattle.wy_prove_rounds.proofs.wy_search_facts_proofs.AddingLemmas.{types_up}
 use Rattle.wy_term.specs.Nodes.{tree_at}
 use Rattle.wy_term.specs.Condition.{condition_of}
 use Rattle.wy_facts.proofs.StepLemmas.{stays_same, stays_on}

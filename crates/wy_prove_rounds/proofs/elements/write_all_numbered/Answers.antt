@@ -4,8 +4,8 @@ use Rattle.wy_facts.proofs.SharedLemmas.{types_stay}
 use Rattle.wy_facts.proofs.StepLemmas.{stays_on, stays_same}
 use Rattle.wy_prove_drafts.specs.wy_check_spec.judge.Node.{Node}
 use Rattle.wy_prove_drafts.specs.wy_search_spec.Expansion.{with_some}
-use Rattle.wy_search_facts.proofs.AddingLemmas.{types_up}
-use Rattle.wy_search_facts.specs.Adding.{with_numbered}
+use Rattle.wy_search.proofs.wy_search_facts_proofs.AddingLemmas.{types_up}
+use Rattle.wy_search.specs.wy_search_facts.Adding.{with_numbered}
 use Rattle.wy_term.specs.Condition.{Entry, condition_of}
 use Rattle.wy_term.specs.Nodes.{tree_at}
 use Rattle.wy_term.specs.Term.{Term, Number}

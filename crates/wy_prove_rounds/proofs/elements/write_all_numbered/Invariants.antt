@@ -1,7 +1,7 @@
 use Rattle.wy_prove_drafts.specs.Draft.{IsDraft, seen_draft}
 use Rattle.wy_facts.specs.Seen.{Stays}
 use Rattle.wy_prove_drafts.specs.wy_check_spec.judge.Node.{Node}
-use Rattle.wy_search_facts.specs.Adding.{with_numbered}
+use Rattle.wy_search.specs.wy_search_facts.Adding.{with_numbered}
 use Rattle.wy_term.specs.Condition.{condition_of}
 use Rattle.wy_term.specs.Nodes.{tree_at}
 use Rattle.wy_prove_rounds.specs.Moving.{IsFit, Moves}

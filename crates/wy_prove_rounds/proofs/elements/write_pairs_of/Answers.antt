@@ -6,7 +6,7 @@ use Rattle.wy_check_nodes.specs.Seen.{seen_formula}
 use Rattle.wy_prove_drafts.specs.Draft.{seen_draft}
 use Rattle.wy_prove_drafts.specs.wy_search_spec.Expansion.{with_pairs_of}
 use Rattle.wy_check_splits.proofs.SharedLemmas.{formula_kept, within_now}
-use Rattle.wy_search_facts.proofs.AddingLemmas.{types_up}
+use Rattle.wy_search.proofs.wy_search_facts_proofs.AddingLemmas.{types_up}
 use Rattle.wy_term.specs.Condition.{Entry, condition_of}
 use Rattle.wy_term.specs.Nodes.{tree_at}
 use Rattle.wy_term.specs.Term.{Term}

@@ -5,7 +5,7 @@ use Rattle.wy_facts.specs.Schema.{as_element}
 use Rattle.wy_prove_drafts.specs.wy_check_spec.judge.Node.{Node}
 use Rattle.wy_check_nodes.specs.Seen.{seen_formula, signed}
 use Rattle.wy_prove_drafts.specs.wy_search_spec.Expansion.{with_pairs_of}
-use Rattle.wy_search_facts.proofs.DenialLemmas.{is_none, pairs_none}
+use Rattle.wy_search.proofs.wy_search_facts_proofs.DenialLemmas.{is_none, pairs_none}
 use Rattle.wy_term.specs.Condition.{condition_of}
 use Rattle.wy_term.specs.Nodes.{tree_at}
 use Rattle.wy_term.specs.Term.{Not}

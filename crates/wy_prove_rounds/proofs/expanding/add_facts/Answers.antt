@@ -1,5 +1,5 @@
 use Rattle.std.proofs.Common.{◌∙◌, ℕ, List, length, map, sym, ap, subst}
-use Rattle.wy_search_bounds.proofs.KnownLemmas.{on_ok_anyway}
+use Rattle.wy_search.proofs.wy_search_bounds_proofs.KnownLemmas.{on_ok_anyway}
 use Rattle.wy_prove_drafts.specs.Draft.{seen_draft}
 use Rattle.wy_prove_drafts.specs.Progress.{Progress}
 use Rattle.wy_prove_drafts.proofs.DraftLemmas.{draft_stays, seen_draft_stays}
@@ -13,7 +13,7 @@ use Rattle.wy_lemmas.proofs.Options.{on_ok}
 use Rattle.wy_prove_drafts.specs.wy_search_spec.Expansion.{with_facts}
 use Rattle.wy_search.specs.Turns.{begun}
 use Rattle.wy_search.proofs.RoundLemmas.{with_stated}
-use Rattle.wy_search_facts.proofs.AddingLemmas.{types_up}
+use Rattle.wy_search.proofs.wy_search_facts_proofs.AddingLemmas.{types_up}
 use Rattle.wy_term.specs.Condition.{Entry, condition_of}
 use Rattle.wy_term.specs.Nodes.{tree_at}
 use Rattle.wy_prove_rounds.specs.Moving.{Reaches}

@@ -1,13 +1,13 @@
 use Rattle.std.proofs.Common.{◌∙◌, ap, subst, sym}
 use Rattle.std.proofs.lemmas.Result.{IfOk-weaker}
-use Rattle.wy_search_bounds.proofs.KnownLemmas.{on_ok_anyway}
+use Rattle.wy_search.proofs.wy_search_bounds_proofs.KnownLemmas.{on_ok_anyway}
 use Rattle.wy_prove_drafts.specs.Draft.{seen_draft}
 use Rattle.wy_prove_drafts.specs.Progress.{Progress}
 use Rattle.wy_prove_drafts.proofs.DraftLemmas.{draft_stays, seen_draft_stays}
 use Rattle.wy_facts.proofs.StepLemmas.{stays_on}
 use Rattle.wy_prove_drafts.specs.wy_search_spec.Expansion.{Spot, with_witnesses}
 use Rattle.wy_search.proofs.SpotLemmas.{seen_stays, spot_stays}
-use Rattle.wy_search_facts.specs.Seen.{seen_spot}
+use Rattle.wy_search.specs.wy_search_facts.Seen.{seen_spot}
 use Rattle.wy_term.specs.Nodes.{tree_at}
 use Rattle.wy_prove_rounds.specs.Moving.{Reaches}
 use Rattle.wy_prove_rounds.proofs.RoundLemmas.{beside_along, witnesses_reach}

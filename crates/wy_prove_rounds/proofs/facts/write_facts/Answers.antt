@@ -7,7 +7,7 @@ use Rattle.wy_check_nodes.specs.Seen.{seen_branch, seen_formula}
 use Rattle.wy_check_nodes.proofs.SumsBranchLemmas.{branch_stays, node_stays}
 use Rattle.wy_prove_drafts.specs.wy_search_spec.Expansion.{with_facts_by, with_schemas}
 use Rattle.wy_prove_drafts.specs.wy_search_spec.Standing.{standing}
-use Rattle.wy_search_facts.proofs.AddingLemmas.{types_up}
+use Rattle.wy_search.proofs.wy_search_facts_proofs.AddingLemmas.{types_up}
 use Rattle.wy_term.specs.Condition.{Entry, condition_of}
 use Rattle.wy_term.specs.Nodes.{tree_at}
 use Rattle.wy_term.specs.Term.{Term}

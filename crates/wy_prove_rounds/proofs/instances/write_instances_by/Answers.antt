@@ -4,7 +4,7 @@ use Rattle.wy_prove_drafts.specs.Draft.{seen_draft}
 use Rattle.wy_prove_drafts.specs.wy_check_spec.judge.Node.{Node}
 use Rattle.wy_check_nodes.specs.Seen.{seen_literal}
 use Rattle.wy_prove_drafts.specs.wy_search_spec.Expansion.{with_instances_by}
-use Rattle.wy_search_facts.proofs.DenialLemmas.{is_none}
+use Rattle.wy_search.proofs.wy_search_facts_proofs.DenialLemmas.{is_none}
 use Rattle.wy_term.specs.Nodes.{tree_at}
 use Rattle.wy_prove_drafts.specs.wy_check_spec.valid.Ranges.{Range, of_each}
 use Rattle.wy_prove_rounds.proofs.MovingLemmas.{moves_none}

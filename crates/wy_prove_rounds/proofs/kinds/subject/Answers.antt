@@ -1,5 +1,5 @@
 use Rattle.std.proofs.Common.{◌≡◌, rules}
-use Rattle.wy_search_facts.proofs.KindLemmas.{array_about, record_about}
+use Rattle.wy_search.proofs.wy_search_facts_proofs.KindLemmas.{array_about, record_about}
 use Rattle.wy_term.specs.Nodes.{tree_at}
 use Rattle.wy_term.specs.Term.{one, bool, of_kind, null_kind, bool_kind, int_kind, array_kind, record_kind}
 use Rattle.wy_prove_rounds.proofs.kinds.subject.Goals as goal

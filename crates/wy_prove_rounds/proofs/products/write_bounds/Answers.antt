@@ -1,6 +1,6 @@
 use Rattle.std.proofs.Common.{◌≡◌, ◌∙◌, ℕ, Option, false, ap, subst}
 use Rattle.std.specs.Prelude.{IfNone, IfSome}
-use Rattle.wy_search_bounds.proofs.ProductLemmas.{pushed}
+use Rattle.wy_search.proofs.wy_search_bounds_proofs.ProductLemmas.{pushed}
 use Rattle.wy_prove_drafts.specs.Draft.{seen_draft}
 use Rattle.wy_prove_drafts.specs.wy_check_spec.judge.Node.{has_literal}
 use Rattle.wy_check_nodes.specs.Seen.{seen_branch}

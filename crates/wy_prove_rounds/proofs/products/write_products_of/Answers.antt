@@ -1,7 +1,7 @@
 use Rattle.std.proofs.Common.{◌≡◌, ◌∙◌, Some, ap, ap₂, refl, subst, sym, arith}
-use Rattle.wy_search_bounds.proofs.KnownLemmas.{if_known}
-use Rattle.wy_search_bounds.proofs.ProductLemmas.{both_vary, constant_first, constant_second, product_at, tightest_at}
-use Rattle.wy_search_bounds.specs.Bounds.{AreFactor, IsConstant, IsFactor}
+use Rattle.wy_search.proofs.wy_search_bounds_proofs.KnownLemmas.{if_known}
+use Rattle.wy_search.proofs.wy_search_bounds_proofs.ProductLemmas.{both_vary, constant_first, constant_second, product_at, tightest_at}
+use Rattle.wy_search.specs.wy_search_bounds.Bounds.{AreFactor, IsConstant, IsFactor}
 use Rattle.wy_prove_drafts.specs.Draft.{seen_draft}
 use Rattle.wy_prove_drafts.proofs.DraftLemmas.{draft_stays, seen_draft_stays}
 use Rattle.wy_facts.proofs.StepLemmas.{stays_on}

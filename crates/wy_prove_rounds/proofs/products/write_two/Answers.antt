@@ -1,7 +1,7 @@
 use Rattle.std.proofs.Common.{◌≡◌, Option, None, rules, subst}
-use Rattle.wy_search_bounds.proofs.ProductLemmas.{none_first, none_second}
-use Rattle.wy_search_bounds.specs.Bounds.{AreBounds}
-use Rattle.wy_search_bounds.specs.declared.tightest.Bound.{Bound}
+use Rattle.wy_search.proofs.wy_search_bounds_proofs.ProductLemmas.{none_first, none_second}
+use Rattle.wy_search.specs.wy_search_bounds.Bounds.{AreBounds}
+use Rattle.wy_search.specs.wy_search_bounds.declared.tightest.Bound.{Bound}
 use Rattle.wy_prove_drafts.specs.Draft.{seen_draft}
 use Rattle.wy_check_nodes.specs.Seen.{seen_branch}
 use Rattle.wy_term.specs.Nodes.{tree_at}

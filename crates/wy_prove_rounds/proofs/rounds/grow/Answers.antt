@@ -7,7 +7,7 @@ use Rattle.wy_lemmas.proofs.Options.{on_ok}
 use Rattle.wy_prove_drafts.specs.wy_search_spec.Expansion.{with_facts, with_instances, with_products}
 use Rattle.wy_search.specs.Turns.{begun, index_terms_in}
 use Rattle.wy_search.proofs.RoundLemmas.{grown}
-use Rattle.wy_search_facts.proofs.AddingLemmas.{types_up}
+use Rattle.wy_search.proofs.wy_search_facts_proofs.AddingLemmas.{types_up}
 use Rattle.wy_term.specs.Condition.{Entry, condition_of}
 use Rattle.wy_term.specs.Nodes.{tree_at}
 use Rattle.wy_prove_rounds.specs.Moving.{Reaches}

@@ -10,8 +10,8 @@ use Rattle.wy_check_nodes.proofs.SumsBranchLemmas.{branch_stays, node_stays}
 use Rattle.wy_prove_drafts.specs.wy_search_spec.Expansion.{Spot, expanded, with_instances, with_facts, with_products}
 use Rattle.wy_search.specs.Turns.{begun, index_terms_in}
 use Rattle.wy_search.proofs.RoundLemmas.{round_made}
-use Rattle.wy_search_facts.proofs.AddingLemmas.{types_up}
-use Rattle.wy_search_facts.specs.Seen.{seen_spot}
+use Rattle.wy_search.proofs.wy_search_facts_proofs.AddingLemmas.{types_up}
+use Rattle.wy_search.specs.wy_search_facts.Seen.{seen_spot}
 use Rattle.wy_term.specs.Condition.{Entry, condition_of}
 use Rattle.wy_term.specs.Nodes.{tree_at}
 use Rattle.wy_prove_rounds.specs.Moving.{Reaches}

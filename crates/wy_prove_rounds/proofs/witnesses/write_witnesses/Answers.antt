@@ -7,7 +7,7 @@ use Rattle.wy_check_nodes.proofs.SumsBranchLemmas.{branch_stays}
 use Rattle.wy_prove_drafts.specs.wy_search_spec.Expansion.{Spot, with_witness, with_witnesses}
 use Rattle.wy_search.proofs.SpotLemmas.{copy_over, same_node}
 use Rattle.wy_check_splits.proofs.WalkLemmas.{member_below}
-use Rattle.wy_search_facts.specs.Seen.{seen_spot}
+use Rattle.wy_search.specs.wy_search_facts.Seen.{seen_spot}
 use Rattle.wy_term.specs.Nodes.{tree_at}
 use Rattle.wy_term.specs.Term.{Term}
 use Rattle.wy_prove_drafts.specs.wy_check_spec.valid.Ranges.{of_one}

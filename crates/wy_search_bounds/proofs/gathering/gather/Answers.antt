@@ -1,9 +1,9 @@
 use Rattle.std.proofs.Common.{ap, subst, sym}
 use Rattle.wy_term.specs.Nodes.{tree_at}
 use Rattle.wy_cong.specs.wy_check_spec.judge.Node.{Node}
-use Rattle.wy_check_nodes.specs.Seen.{seen_branch}
+use Rattle.wy_cong.specs.wy_check_nodes.Seen.{seen_branch}
 use Rattle.wy_cong.proofs.wy_facts_proofs.StepLemmas.{stays_on}
-use Rattle.wy_check_nodes.proofs.SumsBranchLemmas.{branch_stays, node_stays}
+use Rattle.wy_cong.proofs.wy_check_nodes_proofs.SumsBranchLemmas.{branch_stays, node_stays}
 use Rattle.wy_cong.specs.Seen.{terms_of}
 use Rattle.wy_search_bounds.proofs.GatherLemmas.{gathers_next, terms_stay}
 use Rattle.wy_search_bounds.specs.Firsts.{AreFirsts}

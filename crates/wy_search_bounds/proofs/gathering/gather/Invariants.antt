@@ -1,6 +1,6 @@
 use Rattle.std.proofs.Common.{take}
 use Rattle.wy_cong.specs.wy_facts.Seen.{Stays}
-use Rattle.wy_check_nodes.specs.Seen.{seen_branch}
+use Rattle.wy_cong.specs.wy_check_nodes.Seen.{seen_branch}
 use Rattle.wy_cong.specs.wy_search_spec.Bounds.{replaced_forms}
 use Rattle.wy_term.specs.Nodes.{tree_at}
 use Rattle.wy_cong.specs.Seen.{terms_of}

@@ -3,7 +3,7 @@ use Rattle.std.proofs.lemmas.Result.{IfOk-weaker}
 use Rattle.wy_term.specs.Term.{Term}
 use Rattle.wy_term.specs.Nodes.{tree_at}
 use Rattle.wy_lin.specs.Seen.{seen_form}
-use Rattle.wy_check_nodes.specs.Seen.{seen_literal}
+use Rattle.wy_cong.specs.wy_check_nodes.Seen.{seen_literal}
 use Rattle.wy_cong.specs.wy_search_spec.Bounds.{numbered, replaced}
 use Rattle.wy_cong.specs.Seen.{terms_of}
 use Rattle.wy_search_bounds.specs.Seen.{seen_replaced}

@@ -2,7 +2,7 @@ use Rattle.std.proofs.Common.{◌≡◌, None, refl}
 use Rattle.std.specs.HashMap.{get}
 use Rattle.wy_search_bounds.proofs.KnownLemmas.{none_known}
 use Rattle.wy_search_bounds.proofs.passing.no_passing.Goals as goal
-use Rattle.wy_check_nodes.specs.Seen.{same_signed}
+use Rattle.wy_cong.specs.wy_check_nodes.Seen.{same_signed}
 
 pub returns : goal.returns
 returns c = λ n at l o e.

@@ -2,10 +2,10 @@ use Rattle.std.proofs.Common.{ap, false, length}
 use Rattle.wy_search_bounds.proofs.BoundLemmas.{bounds_at}
 use Rattle.wy_search_bounds.proofs.products.bounds_by.Goals as goal
 use Rattle.wy_cong.specs.wy_check_spec.judge.Node.{Node}
-use Rattle.wy_check_nodes.specs.Seen.{seen_branch}
+use Rattle.wy_cong.specs.wy_check_nodes.Seen.{seen_branch}
 use Rattle.wy_lin.specs.Seen.{seen_form}
-use Rattle.wy_check_nodes.proofs.SumsBranchLemmas.{branch_stays, node_stays}
-use Rattle.wy_check_nodes.proofs.FormLemmas.{form_kept, form_up}
+use Rattle.wy_cong.proofs.wy_check_nodes_proofs.SumsBranchLemmas.{branch_stays, node_stays}
+use Rattle.wy_cong.proofs.wy_check_nodes_proofs.FormLemmas.{form_kept, form_up}
 use Rattle.wy_term.specs.Nodes.{tree_at}
 
 pub bound_of-requires-2-clause-branch : goal.bound_of-requires-2-clause-branch

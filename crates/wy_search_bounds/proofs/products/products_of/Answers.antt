@@ -3,10 +3,10 @@ use Rattle.wy_search_bounds.proofs.products.products_of.Goals as goal
 use Rattle.wy_cong.proofs.wy_facts_proofs.StepLemmas.{stays_on, stays_same}
 use Rattle.wy_cong.specs.wy_facts.Seen.{terms_at, AreBelow}
 use Rattle.wy_cong.specs.wy_check_spec.judge.Node.{Node, with_formulas}
-use Rattle.wy_check_nodes.proofs.SharedLemmas.{end_led, step_led}
-use Rattle.wy_check_nodes.specs.Seen.{seen_branch}
+use Rattle.wy_cong.proofs.wy_check_nodes_proofs.SharedLemmas.{end_led, step_led}
+use Rattle.wy_cong.specs.wy_check_nodes.Seen.{seen_branch}
 use Rattle.wy_cong.specs.wy_search_spec.Expansion.{with_products_by, with_products_of}
-use Rattle.wy_check_nodes.proofs.SumsBranchLemmas.{branch_stays, node_stays}
+use Rattle.wy_cong.proofs.wy_check_nodes_proofs.SumsBranchLemmas.{branch_stays, node_stays}
 use Rattle.wy_check.proofs.wy_check_splits_proofs.SharedLemmas.{formula_kept, within_now}
 use Rattle.wy_term.specs.Nodes.{tree_at}
 use Rattle.wy_term.specs.Term.{Term}

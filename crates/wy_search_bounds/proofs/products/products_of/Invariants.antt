@@ -3,7 +3,7 @@ use Rattle.wy_search_bounds.proofs.products.products_of.Given as goal
 use Rattle.wy_search_bounds.specs.Known.{AreKnown}
 use Rattle.wy_cong.specs.wy_facts.Seen.{terms_at, AreBelow, Stays}
 use Rattle.wy_cong.specs.wy_check_spec.judge.Node.{Node, with_formulas}
-use Rattle.wy_check_nodes.specs.Seen.{seen_branch, seen_formula}
+use Rattle.wy_cong.specs.wy_check_nodes.Seen.{seen_branch, seen_formula}
 use Rattle.wy_cong.specs.wy_search_spec.Expansion.{with_products_by}
 use Rattle.wy_cong.specs.wy_search_spec.Standing.{standing}
 use Rattle.wy_term.specs.Nodes.{tree_at}

@@ -6,9 +6,9 @@ use Rattle.wy_search_bounds.specs.Adding.{Leads}
 use Rattle.std.specs.Prelude.{OnOk}
 use Rattle.wy_cong.proofs.wy_facts_proofs.StepLemmas.{stays_on}
 use Rattle.wy_cong.specs.wy_check_spec.judge.Node.{Node}
-use Rattle.wy_check_nodes.specs.Seen.{seen_branch}
+use Rattle.wy_cong.specs.wy_check_nodes.Seen.{seen_branch}
 use Rattle.wy_cong.specs.wy_search_spec.Expansion.{best_bound}
-use Rattle.wy_check_nodes.proofs.SumsBranchLemmas.{branch_stays, node_stays}
+use Rattle.wy_cong.proofs.wy_check_nodes_proofs.SumsBranchLemmas.{branch_stays, node_stays}
 use Rattle.wy_term.specs.Nodes.{tree_at}
 
 pub push_product-requires-2-clause-branch : goal.push_product-requires-2-clause-branch

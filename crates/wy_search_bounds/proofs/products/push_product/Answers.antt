@@ -4,7 +4,7 @@ use Rattle.wy_search_bounds.proofs.ProductLemmas.{none_first, none_second, pushe
 use Rattle.wy_search_bounds.proofs.products.push_product.Goals as goal
 use Rattle.wy_search_bounds.specs.Bounds.{AreBounds}
 use Rattle.wy_search_bounds.specs.declared.tightest.Bound.{Bound}
-use Rattle.wy_check_nodes.specs.Seen.{seen_branch}
+use Rattle.wy_cong.specs.wy_check_nodes.Seen.{seen_branch}
 use Rattle.wy_lemmas.proofs.Options.{on_ok}
 use Rattle.wy_term.specs.Nodes.{tree_at}
 

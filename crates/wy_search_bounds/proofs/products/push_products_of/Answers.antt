@@ -6,10 +6,10 @@ use Rattle.wy_search_bounds.proofs.products.push_products_of.Goals as goal
 use Rattle.wy_search_bounds.specs.Bounds.{AreFactor, IsConstant, IsFactor}
 use Rattle.wy_cong.proofs.wy_facts_proofs.StepLemmas.{below_kept, stays_on}
 use Rattle.wy_cong.specs.wy_check_spec.judge.Node.{Node}
-use Rattle.wy_check_nodes.specs.Seen.{seen_branch}
+use Rattle.wy_cong.specs.wy_check_nodes.Seen.{seen_branch}
 use Rattle.wy_lin.specs.TermForm.{form_of}
 use Rattle.wy_cong.specs.wy_search_spec.Expansion.{with_four}
-use Rattle.wy_check_nodes.proofs.SumsBranchLemmas.{branch_stays, node_stays}
+use Rattle.wy_cong.proofs.wy_check_nodes_proofs.SumsBranchLemmas.{branch_stays, node_stays}
 use Rattle.wy_term.specs.Nodes.{tree_at}
 use Rattle.wy_term.specs.Term.{Term}
 

@@ -2,7 +2,7 @@ use Rattle.std.proofs.Common.{◌∙◌, ◌<◌, ℕ, Option, map, sym, ap, sub
 use Rattle.std.specs.Prelude.{option_map, IfSome}
 use Rattle.wy_search_bounds.proofs.products.push_some.Goals as goal
 use Rattle.wy_cong.specs.wy_check_spec.judge.Node.{with_formulas}
-use Rattle.wy_check_nodes.proofs.JudgingLemmas.{below_last}
+use Rattle.wy_cong.proofs.wy_check_nodes_proofs.JudgingLemmas.{below_last}
 use Rattle.wy_cong.proofs.wy_search_spec_proofs.SharedLemmas.{with_last}
 use Rattle.wy_cong.specs.wy_search_spec.Expansion.{with_some}
 

@@ -2,7 +2,7 @@ use Rattle.std.proofs.Common.{◌≡◌, ◌∙◌, Option, Some, None, Bool, tr
 use Rattle.wy_search_bounds.proofs.AddingLemmas.{led_if, unmoved}
 use Rattle.wy_search_bounds.proofs.products.push_term.Goals as goal
 use Rattle.wy_cong.specs.wy_check_spec.judge.Node.{Node}
-use Rattle.wy_check_nodes.specs.Seen.{seen_branch, signed}
+use Rattle.wy_cong.specs.wy_check_nodes.Seen.{seen_branch, signed}
 use Rattle.wy_cong.specs.wy_search_spec.Expansion.{with_products_of}
 use Rattle.wy_term.specs.Nodes.{tree_at}
 use Rattle.wy_term.specs.Term.{Term}

@@ -4,10 +4,10 @@ use Rattle.wy_search_bounds.proofs.tightest.bound_of.Goals as goal
 use Rattle.wy_search_bounds.specs.Bounds.{AreBounds}
 use Rattle.wy_cong.proofs.wy_facts_proofs.StepLemmas.{stays_on, stays_same}
 use Rattle.wy_cong.specs.wy_check_spec.judge.Node.{Node}
-use Rattle.wy_check_nodes.specs.Seen.{seen_branch, seen_literal}
+use Rattle.wy_cong.specs.wy_check_nodes.Seen.{seen_branch, seen_literal}
 use Rattle.wy_lin.specs.Seen.{seen_form}
-use Rattle.wy_check_nodes.proofs.SumsBranchLemmas.{branch_stays, node_stays}
-use Rattle.wy_check_nodes.proofs.FormLemmas.{form_kept, form_up}
+use Rattle.wy_cong.proofs.wy_check_nodes_proofs.SumsBranchLemmas.{branch_stays, node_stays}
+use Rattle.wy_cong.proofs.wy_check_nodes_proofs.FormLemmas.{form_kept, form_up}
 use Rattle.wy_term.specs.Nodes.{tree_at}
 
 pub with_literal-requires-clause-branch : goal.with_literal-requires-clause-branch

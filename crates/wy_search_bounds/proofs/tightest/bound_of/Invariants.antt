@@ -3,7 +3,7 @@ use Rattle.wy_search_bounds.proofs.tightest.bound_of.Given as goal
 use Rattle.wy_search_bounds.specs.Bounds.{AreBounds}
 use Rattle.wy_search_bounds.specs.Known.{AreKnown}
 use Rattle.wy_cong.specs.wy_facts.Seen.{Stays}
-use Rattle.wy_check_nodes.specs.Seen.{seen_branch}
+use Rattle.wy_cong.specs.wy_check_nodes.Seen.{seen_branch}
 use Rattle.wy_lin.specs.Seen.{seen_form}
 use Rattle.wy_cong.specs.wy_search_spec.Expansion.{best_bound}
 use Rattle.wy_term.specs.Nodes.{tree_at}

@@ -4,11 +4,11 @@ use Rattle.std.specs.Int.{w128}
 use Rattle.wy_search_bounds.proofs.BoundLemmas.{affine_size, no_form, some_form}
 use Rattle.wy_search_bounds.proofs.KnownLemmas.{no_place, place_within, placed_at, placed_is, placed_over}
 use Rattle.wy_search_bounds.proofs.tightest.with_literal.Goals as goal
-use Rattle.wy_check_nodes.specs.Seen.{seen_branch}
+use Rattle.wy_cong.specs.wy_check_nodes.Seen.{seen_branch}
 use Rattle.wy_lin.specs.Linear.{Linear}
 use Rattle.wy_lin.specs.Seen.{seen_form}
 use Rattle.wy_check.specs.Seen.{AreAffine}
-use Rattle.wy_check_nodes.proofs.FormLemmas.{form_kept, form_up}
+use Rattle.wy_cong.proofs.wy_check_nodes_proofs.FormLemmas.{form_kept, form_up}
 use Rattle.wy_term.specs.Nodes.{tree_at}
 use Rattle.wy_term.specs.Term.{Term}
 use Rattle.wy_cong.specs.wy_check_spec.valid.Products.{affine}

@@ -1,5 +1,5 @@
 use Rattle.std.proofs.Common.{◌≡◌, drop}
-use Rattle.wy_types.specs.Asks as asks
+use Rattle.wy_canon.specs.wy_types.Asks as asks
 use Rattle.wy_subtype.proofs.asks.names_only.Given as goal
 
 abbrev pub invariant-loop-atom : goal.invariant-loop-atom

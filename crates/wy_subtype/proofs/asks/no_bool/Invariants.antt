@@ -1,5 +1,5 @@
 use Rattle.std.proofs.Common.{◌≡◌, drop}
-use Rattle.wy_types.specs.Shape.{BoolShape, none_in}
+use Rattle.wy_canon.specs.wy_types.Shape.{BoolShape, none_in}
 use Rattle.wy_subtype.proofs.asks.no_bool.Given as goal
 
 abbrev pub invariant-loop-atom : goal.invariant-loop-atom

@@ -1,11 +1,11 @@
 use Rattle.std.proofs.Common.{◌≡◌, ◌∙◌, true, List, ℕ, [], subst, ap}
 use Rattle.wy_canon.specs.wy_value.Datum.{Datum}
-use Rattle.wy_types.specs.declared.conjuncts.Signed.{Signed}
-use Rattle.wy_types.specs.Conjuncts.{with_sides}
-use Rattle.wy_types.specs.Membership.{member}
-use Rattle.wy_types.specs.Shape.{part_in}
-use Rattle.wy_types.specs.Asks.{HasValue}
-use Rattle.wy_types.specs.Reach.{IsWide}
+use Rattle.wy_canon.specs.wy_types.declared.conjuncts.Signed.{Signed}
+use Rattle.wy_canon.specs.wy_types.Conjuncts.{with_sides}
+use Rattle.wy_canon.specs.wy_types.Membership.{member}
+use Rattle.wy_canon.specs.wy_types.Shape.{part_in}
+use Rattle.wy_canon.specs.wy_types.Asks.{HasValue}
+use Rattle.wy_canon.specs.wy_types.Reach.{IsWide}
 use Rattle.wy_subtype.proofs.ValueLemmas.{none_inside, some_inside}
 use Rattle.wy_subtype.proofs.inclusion.is_inhabited.Goals as goal
 

@@ -1,11 +1,11 @@
 use Rattle.std.proofs.Common.{◌≡◌, ◌∙◌, true, List, ℕ, subst}
 use Rattle.std.proofs.lemmas.Bool.{not-true, not-false}
 use Rattle.wy_canon.specs.wy_value.Datum.{Datum}
-use Rattle.wy_types.specs.declared.conjuncts.Signed.{Signed}
-use Rattle.wy_types.specs.Membership.{member}
-use Rattle.wy_types.specs.Shape.{part_in}
-use Rattle.wy_types.specs.Asks.{HasValue}
-use Rattle.wy_types.specs.Reach.{IsWide, outside}
+use Rattle.wy_canon.specs.wy_types.declared.conjuncts.Signed.{Signed}
+use Rattle.wy_canon.specs.wy_types.Membership.{member}
+use Rattle.wy_canon.specs.wy_types.Shape.{part_in}
+use Rattle.wy_canon.specs.wy_types.Asks.{HasValue}
+use Rattle.wy_canon.specs.wy_types.Reach.{IsWide, outside}
 use Rattle.wy_subtype.proofs.ValueLemmas.{within_is, outside_is}
 use Rattle.wy_subtype.proofs.inclusion.is_within.Goals as goal
 

@@ -1,8 +1,8 @@
 use Rattle.std.proofs.Common.{◌≡◌, ◌∙◌, true, sym, subst}
 use Rattle.std.proofs.lemmas.Bool.{not-true, not-false}
-use Rattle.wy_types.specs.declared.question.Question.{Question}
-use Rattle.wy_types.specs.Questions.{first_part}
-use Rattle.wy_types.specs.Reach.{IsWide}
+use Rattle.wy_canon.specs.wy_types.declared.question.Question.{Question}
+use Rattle.wy_canon.specs.wy_types.Questions.{first_part}
+use Rattle.wy_canon.specs.wy_types.Reach.{IsWide}
 use Rattle.wy_subtype.proofs.questions.empty_in.Goals as goal
 
 pub returns-clause-sound : goal.returns-clause-sound

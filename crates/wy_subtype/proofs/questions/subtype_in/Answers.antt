@@ -1,7 +1,7 @@
 use Rattle.std.proofs.Common.{◌≡◌, ◌∙◌, true, sym, subst}
-use Rattle.wy_types.specs.declared.question.Question.{Question}
-use Rattle.wy_types.specs.Questions.{outside_part}
-use Rattle.wy_types.specs.Reach.{IsWide}
+use Rattle.wy_canon.specs.wy_types.declared.question.Question.{Question}
+use Rattle.wy_canon.specs.wy_types.Questions.{outside_part}
+use Rattle.wy_canon.specs.wy_types.Reach.{IsWide}
 use Rattle.wy_subtype.proofs.questions.subtype_in.Goals as goal
 
 pub returns-clause-sound : goal.returns-clause-sound

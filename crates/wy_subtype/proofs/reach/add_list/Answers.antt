@@ -1,6 +1,6 @@
 use Rattle.std.proofs.Common.{◌∙◌, sym, subst, List, ℕ}
-use Rattle.wy_types.specs.declared.conjuncts.Signed.{Signed}
-use Rattle.wy_types.specs.Reach.{IsNeeded}
+use Rattle.wy_canon.specs.wy_types.declared.conjuncts.Signed.{Signed}
+use Rattle.wy_canon.specs.wy_types.Reach.{IsNeeded}
 use Rattle.wy_subtype.proofs.NumberLemmas.{at_turn, each_at}
 use Rattle.wy_subtype.proofs.KnownLemmas.{grows_more}
 use Rattle.wy_subtype.proofs.reach.add_list.Goals as goal

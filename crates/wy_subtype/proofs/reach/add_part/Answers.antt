@@ -1,8 +1,8 @@
 use Rattle.std.proofs.Common.{◌≡◌, ◌∙◌, ◌++◌, ◌∷◌, [], true, ℕ, sym, subst, List, length, ap}
-use Rattle.wy_types.specs.declared.conjuncts.Conjunct.{Conjunct}
-use Rattle.wy_types.specs.Claims.{EachOf}
-use Rattle.wy_types.specs.Conjuncts.{dnf_part, narrow_part}
-use Rattle.wy_types.specs.Reach.{Reaches}
+use Rattle.wy_canon.specs.wy_types.declared.conjuncts.Conjunct.{Conjunct}
+use Rattle.wy_canon.specs.wy_types.Claims.{EachOf}
+use Rattle.wy_canon.specs.wy_types.Conjuncts.{dnf_part, narrow_part}
+use Rattle.wy_canon.specs.wy_types.Reach.{Reaches}
 use Rattle.wy_subtype.specs.Known.{AreInterned}
 use Rattle.wy_subtype.proofs.KnownLemmas.{needed_reaches, known_more, added_as}
 use Rattle.wy_subtype.proofs.reach.add_part.Goals as goal

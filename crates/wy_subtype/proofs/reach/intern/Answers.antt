@@ -1,7 +1,7 @@
 use Rattle.std.proofs.Common.{◌≡◌, ℕ, List, ◌++◌, ◌∷◌, [], false, sym, ap, subst, ◌∙◌, ◌≤◌, length}
-use Rattle.wy_types.specs.declared.conjuncts.Conjunct.{Conjunct}
-use Rattle.wy_types.specs.Conjuncts.{same_term}
-use Rattle.wy_types.specs.Same as same
+use Rattle.wy_canon.specs.wy_types.declared.conjuncts.Conjunct.{Conjunct}
+use Rattle.wy_canon.specs.wy_types.Conjuncts.{same_term}
+use Rattle.wy_canon.specs.wy_types.Same as same
 use Rattle.wy_subtype.proofs.KnownLemmas.{interned_new, wide_new, interned_as}
 use Rattle.wy_subtype.proofs.reach.intern.Goals as goal
 

@@ -1,7 +1,7 @@
 use Rattle.std.proofs.Common.{take}
 use Rattle.wy_subtype.specs.Numbers.{Keeps, AreAt}
-use Rattle.wy_types.specs.Claims.{AreDifferent, EachOf}
-use Rattle.wy_types.specs.Reach.{Reaches}
+use Rattle.wy_canon.specs.wy_types.Claims.{AreDifferent, EachOf}
+use Rattle.wy_canon.specs.wy_types.Reach.{Reaches}
 use Rattle.wy_subtype.proofs.reach.intern_all.Given as goal
 
 abbrev pub invariant-loop-c : goal.invariant-loop-c

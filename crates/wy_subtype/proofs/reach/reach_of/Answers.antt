@@ -2,10 +2,10 @@ use Rattle.std.proofs.Common.{◌≡◌, ◌∙◌, sym, subst, ap, ℕ, zero, s
 use Rattle.std.specs.Prelude.{slice_get, Ok, Err, IsErrAnd}
 use Rattle.std.specs.declared.result.Result.{Result}
 use Rattle.std.proofs.lemmas.List.{length_push}
-use Rattle.wy_types.specs.declared.conjuncts.Signed.{Signed}
-use Rattle.wy_types.specs.declared.conjuncts.Conjunct.{Conjunct}
-use Rattle.wy_types.specs.Claims.{EachOf}
-use Rattle.wy_types.specs.Reach.{Reaches, IsNeeded, IsWide}
+use Rattle.wy_canon.specs.wy_types.declared.conjuncts.Signed.{Signed}
+use Rattle.wy_canon.specs.wy_types.declared.conjuncts.Conjunct.{Conjunct}
+use Rattle.wy_canon.specs.wy_types.Claims.{EachOf}
+use Rattle.wy_canon.specs.wy_types.Reach.{Reaches, IsNeeded, IsWide}
 use Rattle.wy_canon.specs.declared.fault.TypeFault.{TypeFault}
 use Rattle.wy_subtype.specs.declared.reach.Reach.{Reach}
 use Rattle.wy_subtype.specs.Numbers.{AreAllAt}

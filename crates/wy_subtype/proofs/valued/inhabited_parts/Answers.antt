@@ -1,8 +1,8 @@
 use Rattle.std.proofs.Common.{◌≡◌, ◌∙◌, ℕ, List, Bool, Some, sym, ap, subst}
 use Rattle.std.specs.Prelude.{slice_get}
-use Rattle.wy_types.specs.declared.conjuncts.Conjunct.{Conjunct}
-use Rattle.wy_types.specs.Conjuncts.{dnf_part}
-use Rattle.wy_types.specs.declared.conjuncts.Part.{Part}
+use Rattle.wy_canon.specs.wy_types.declared.conjuncts.Conjunct.{Conjunct}
+use Rattle.wy_canon.specs.wy_types.Conjuncts.{dnf_part}
+use Rattle.wy_canon.specs.wy_types.declared.conjuncts.Part.{Part}
 use Rattle.wy_subtype.specs.Marks.{part_marks}
 use Rattle.wy_subtype.specs.Valued.{AreValued, AreInhabited, all_ways, marked, held_all}
 use Rattle.wy_subtype.proofs.NarrowLemmas.{reach_narrow}

@@ -1,7 +1,7 @@
 use Rattle.std.proofs.Common.{◌≡◌, ◌∙◌, ℕ, List, Bool, Some, sym, ap, subst}
 use Rattle.std.specs.Prelude.{slice_get}
-use Rattle.wy_types.specs.declared.conjuncts.Conjunct.{Conjunct}
-use Rattle.wy_types.specs.Conjuncts.{dnf_part}
+use Rattle.wy_canon.specs.wy_types.declared.conjuncts.Conjunct.{Conjunct}
+use Rattle.wy_canon.specs.wy_types.Conjuncts.{dnf_part}
 use Rattle.wy_subtype.specs.Valued.{AreValued, marked}
 use Rattle.wy_subtype.proofs.NarrowLemmas.{reach_narrow}
 use Rattle.wy_subtype.proofs.ValuedLemmas.{marked_valued, no_head}

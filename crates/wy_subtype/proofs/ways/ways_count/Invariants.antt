@@ -1,5 +1,5 @@
 use Rattle.std.proofs.Common.{◌≡◌, ◌*◌, drop}
-use Rattle.wy_types.specs.Asks as asks
+use Rattle.wy_canon.specs.wy_types.Asks as asks
 use Rattle.wy_subtype.specs.Ways.{cap}
 use Rattle.wy_subtype.proofs.ways.ways_count.Given as goal
 

@@ -1,8 +1,8 @@
 use Rattle.std.proofs.Common.{◌≡◌, ◌∙◌, true, inr, sym}
 use Rattle.wy_core.specs.CoreSeen.{seen_ty}
 use Rattle.wy_core.specs.declared.types.Ty as rust
-use Rattle.wy_types.specs.Names.{types_of}
-use Rattle.wy_types.specs.Questions.{IsWideAbout}
+use Rattle.wy_subtype.specs.wy_types.Names.{types_of}
+use Rattle.wy_subtype.specs.wy_types.Questions.{IsWideAbout}
 use Rattle.wy_subtype.proofs.RefusalLemmas.{wide_map}
 use Rattle.wy_subtype_parts.specs.Items.{IsWideElement}
 use Rattle.wy_subtype_parts.proofs.UnionLemmas.{narrow_element}

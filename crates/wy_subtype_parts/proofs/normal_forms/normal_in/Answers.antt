@@ -1,14 +1,14 @@
 use Rattle.std.proofs.Common.{◌≡◌, ◌∙◌, ℕ, List, true, sym, ap, subst}
-use Rattle.wy_types.specs.declared.conjuncts.Signed.{Signed}
-use Rattle.wy_types.specs.declared.question.Question.{Question}
-use Rattle.wy_types.specs.Conjuncts.{dnf_part}
-use Rattle.wy_types.specs.Membership as terms
-use Rattle.wy_types.specs.Names.{types_of, shape_of, is_in_normal}
-use Rattle.wy_types.specs.Questions.{first_part}
-use Rattle.wy_types.specs.Reach.{IsWide}
-use Rattle.wy_types.specs.Reading.{ty_at, conjuncts_at}
-use Rattle.wy_types.proofs.RankedLemmas.{has_laws}
-use Rattle.wy_types.proofs.TermLemmas.{any_in-dnf_part}
+use Rattle.wy_subtype.specs.wy_types.declared.conjuncts.Signed.{Signed}
+use Rattle.wy_subtype.specs.wy_types.declared.question.Question.{Question}
+use Rattle.wy_subtype.specs.wy_types.Conjuncts.{dnf_part}
+use Rattle.wy_subtype.specs.wy_types.Membership as terms
+use Rattle.wy_subtype.specs.wy_types.Names.{types_of, shape_of, is_in_normal}
+use Rattle.wy_subtype.specs.wy_types.Questions.{first_part}
+use Rattle.wy_subtype.specs.wy_types.Reach.{IsWide}
+use Rattle.wy_subtype.specs.wy_types.Reading.{ty_at, conjuncts_at}
+use Rattle.wy_subtype.proofs.wy_types_proofs.RankedLemmas.{has_laws}
+use Rattle.wy_subtype.proofs.wy_types_proofs.TermLemmas.{any_in-dnf_part}
 use Rattle.wy_subtype.proofs.ValueLemmas.{part_in-inside}
 use Rattle.wy_subtype_parts.proofs.normal_forms.normal_in.Goals as goal
 

@@ -3,8 +3,8 @@ use Rattle.std.specs.Prelude.{IfSome}
 use Rattle.wy_subtype.specs.wy_value.Datum.{Datum}
 use Rattle.wy_core.specs.CoreSeen.{seen_ty}
 use Rattle.wy_core.specs.declared.types.Ty as rust
-use Rattle.wy_types.specs.Names.{Up, types_of}
-use Rattle.wy_types.specs.Questions.{IsWideAbout}
+use Rattle.wy_subtype.specs.wy_types.Names.{Up, types_of}
+use Rattle.wy_subtype.specs.wy_types.Questions.{IsWideAbout}
 use Rattle.wy_subtype.proofs.RefusalLemmas.{wide_map}
 use Rattle.wy_subtype_parts.specs.Fields.{IsUnion, IsValueIn, IsWideField}
 use Rattle.wy_subtype_parts.proofs.ValueUnionLemmas.{narrow_field, narrow_missing}

@@ -2,8 +2,8 @@ use Rattle.std.proofs.Common.{refl, ◌∙◌}
 use Rattle.wy_vc_body.specs.declared.frame.Frame.{Frame}
 use Rattle.wy_vc_body.specs.Frames.{IsFrame}
 use Rattle.wy_vc_body.proofs.FrameLemmas.{frame_on}
-use Rattle.wy_vc_exprs.specs.declared.walk.Walk.{Walk}
-use Rattle.wy_vc_exprs.proofs.ResultLemmas.{on_ok}
+use Rattle.wy_vc_body.specs.wy_vc_exprs.declared.walk.Walk.{Walk}
+use Rattle.wy_vc_body.proofs.wy_vc_exprs_proofs.ResultLemmas.{on_ok}
 use Rattle.wy_vc.proofs.OwingLemmas.{begun_sound, entry_here, entry_on}
 use Rattle.wy_vc.proofs.BodyLemmas.{body_owes}
 use Rattle.wy_vc.proofs.bodies.owe_body.Goals as goal

@@ -1,5 +1,5 @@
 use Rattle.wy_vc_body.specs.Frames.{body_at}
-use Rattle.wy_vc_exprs.proofs.ResultLemmas.{on_ok}
+use Rattle.wy_vc_body.proofs.wy_vc_exprs_proofs.ResultLemmas.{on_ok}
 use Rattle.wy_vc.proofs.OwingLemmas.{end_given, end_none, end_some}
 use Rattle.wy_vc.proofs.bodies.owe_end.Goals as goal
 

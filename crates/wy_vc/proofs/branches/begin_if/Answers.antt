@@ -1,7 +1,7 @@
 use Rattle.std.proofs.Common.{List, Option, ℕ, sym, subst}
 use Rattle.wy_core.specs.CoreSeen.{seen_expr}
 use Rattle.wy_vc_spec.specs.Numbered.{numbered}
-use Rattle.wy_vc_exprs.specs.Slots.{AreSlots}
+use Rattle.wy_vc_body.specs.wy_vc_exprs.Slots.{AreSlots}
 use Rattle.wy_vc.proofs.BranchLemmas.{forks_from}
 use Rattle.wy_vc.proofs.branches.begin_if.Goals as goal
 

@@ -1,4 +1,4 @@
-use Rattle.wy_vc_exprs.proofs.ResultLemmas.{if_ok}
+use Rattle.wy_vc_body.proofs.wy_vc_exprs_proofs.ResultLemmas.{if_ok}
 use Rattle.wy_vc.proofs.BranchLemmas.{meets_by}
 use Rattle.wy_vc.proofs.branches.end_if.Goals as goal
 

@@ -3,10 +3,10 @@ use Rattle.wy_core.specs.CoreSeen.{seen_expr}
 use Rattle.wy_vc_spec.specs.Numbered.{numbered}
 use Rattle.wy_vc_spec.specs.Statements as spec
 use Rattle.wy_vc_body.specs.Frames.{body_at}
-use Rattle.wy_vc_exprs.specs.Slots.{slots_of}
-use Rattle.wy_vc_exprs.specs.State.{hyps_of}
-use Rattle.wy_vc_exprs.specs.declared.walk.Walk.{Walk}
-use Rattle.wy_vc_exprs.proofs.NumberedLemmas.{at_itself}
+use Rattle.wy_vc_body.specs.wy_vc_exprs.Slots.{slots_of}
+use Rattle.wy_vc_body.specs.wy_vc_exprs.State.{hyps_of}
+use Rattle.wy_vc_body.specs.wy_vc_exprs.declared.walk.Walk.{Walk}
+use Rattle.wy_vc_body.proofs.wy_vc_exprs_proofs.NumberedLemmas.{at_itself}
 use Rattle.wy_vc.specs.declared.branches.Tested.{Tested}
 use Rattle.wy_vc.proofs.BranchLemmas.{tested_is}
 use Rattle.wy_vc.proofs.SimpleLemmas.{walked_by}

@@ -1,5 +1,5 @@
 use Rattle.wy_vc_body.specs.Frames.{program_of}
-use Rattle.wy_vc_exprs.proofs.ResultLemmas.{on_ok}
+use Rattle.wy_vc_body.proofs.wy_vc_exprs_proofs.ResultLemmas.{on_ok}
 use Rattle.wy_vc.proofs.OwingLemmas.{begun_sound, contract_owes, entry_here, entry_on}
 use Rattle.wy_vc.proofs.contracts.owe_contract.Goals as goal
 

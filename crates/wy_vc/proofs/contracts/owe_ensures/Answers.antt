@@ -5,9 +5,9 @@ use Rattle.wy_core.specs.CoreSeen.{seen_exprs, seen_output, seen_routine}
 use Rattle.wy_core.specs.declared.expressions.Expr as e
 use Rattle.wy_vc_body.specs.Frames.{program_of}
 use Rattle.wy_vc_tables.specs.program_names.Described.{setting}
-use Rattle.wy_vc_exprs.specs.Slots.{AreSlots, slots_of}
-use Rattle.wy_vc_exprs.specs.State.{hyps_of}
-use Rattle.wy_vc_exprs.proofs.ResultLemmas.{on_ok}
+use Rattle.wy_vc_body.specs.wy_vc_exprs.Slots.{AreSlots, slots_of}
+use Rattle.wy_vc_body.specs.wy_vc_exprs.State.{hyps_of}
+use Rattle.wy_vc_body.proofs.wy_vc_exprs_proofs.ResultLemmas.{on_ok}
 use Rattle.wy_vc.specs.Entering.{Enters, Owes}
 use Rattle.wy_vc.proofs.OwingLemmas.{ensures_owe, no_ensures}
 use Rattle.wy_vc.proofs.contracts.owe_ensures.Goals as goal

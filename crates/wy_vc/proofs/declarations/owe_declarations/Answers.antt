@@ -4,7 +4,7 @@ use Rattle.wy_core.specs.declared.declarations.Decl.{Decl}
 use Rattle.wy_vc_spec.specs.Numbered.{numbered_decls}
 use Rattle.wy_vc_spec.specs.Programs.{decls_conditions}
 use Rattle.wy_vc_body.specs.Frames.{program_of}
-use Rattle.wy_vc_exprs.proofs.ResultLemmas.{on_ok}
+use Rattle.wy_vc_body.proofs.wy_vc_exprs_proofs.ResultLemmas.{on_ok}
 use Rattle.wy_vc.specs.Entering.{OwesFirst}
 use Rattle.wy_vc.proofs.declarations.owe_declarations.Goals as goal
 

@@ -2,11 +2,11 @@ use Rattle.std.proofs.Common.{List, ℕ, Option, refl, sym, subst}
 use Rattle.wy_core.specs.CoreSeen.{seen_param}
 use Rattle.wy_vc_operations.specs.Growing.{AreSlotsAt}
 use Rattle.wy_vc_tables.specs.program_names.Described.{setting}
-use Rattle.wy_vc_exprs.specs.Slots.{slots_of}
-use Rattle.wy_vc_exprs.specs.declared.walk.Walk.{Walk}
-use Rattle.wy_vc_exprs.proofs.ResultLemmas.{on_ok}
-use Rattle.wy_vc_exprs.proofs.SlotLemmas.{slots_itself}
-use Rattle.wy_vc_exprs.proofs.StateLemmas.{sound_made}
+use Rattle.wy_vc_body.specs.wy_vc_exprs.Slots.{slots_of}
+use Rattle.wy_vc_body.specs.wy_vc_exprs.declared.walk.Walk.{Walk}
+use Rattle.wy_vc_body.proofs.wy_vc_exprs_proofs.ResultLemmas.{on_ok}
+use Rattle.wy_vc_body.proofs.wy_vc_exprs_proofs.SlotLemmas.{slots_itself}
+use Rattle.wy_vc_body.proofs.wy_vc_exprs_proofs.StateLemmas.{sound_made}
 use Rattle.wy_vc.proofs.EntryLemmas.{param_typed}
 use Rattle.wy_vc.proofs.entry.assume_param.Goals as goal
 

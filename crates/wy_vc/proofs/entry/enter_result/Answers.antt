@@ -4,9 +4,9 @@ use Rattle.wy_vc_spec.specs.Programs.{enter_result}
 use Rattle.wy_core.specs.CoreSeen.{seen_output, seen_routine}
 use Rattle.wy_core.specs.declared.declarations.Output.{Output}
 use Rattle.wy_vc_tables.specs.program_names.Described.{setting}
-use Rattle.wy_vc_exprs.specs.Slots.{slots_of}
-use Rattle.wy_vc_exprs.specs.State.{hyps_of}
-use Rattle.wy_vc_exprs.proofs.ResultLemmas.{on_ok}
+use Rattle.wy_vc_body.specs.wy_vc_exprs.Slots.{slots_of}
+use Rattle.wy_vc_body.specs.wy_vc_exprs.State.{hyps_of}
+use Rattle.wy_vc_body.proofs.wy_vc_exprs_proofs.ResultLemmas.{on_ok}
 use Rattle.wy_vc.specs.Entering.{Enters}
 use Rattle.wy_vc.proofs.EntryLemmas.{nothing_entered}
 use Rattle.wy_vc.proofs.entry.enter_result.Goals as goal

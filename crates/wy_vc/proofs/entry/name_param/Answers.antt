@@ -1,6 +1,6 @@
 use Rattle.std.proofs.Common.{refl}
 use Rattle.wy_core.specs.CoreSeen.{seen_param}
-use Rattle.wy_vc_exprs.specs.declared.walk.Walk.{Walk}
+use Rattle.wy_vc_body.specs.wy_vc_exprs.declared.walk.Walk.{Walk}
 use Rattle.wy_vc.proofs.EntryLemmas.{param_named}
 use Rattle.wy_vc.proofs.entry.name_param.Goals as goal
 

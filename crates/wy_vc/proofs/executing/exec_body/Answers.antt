@@ -2,7 +2,7 @@ use Rattle.std.proofs.Common.{◌∙◌, length}
 use Rattle.wy_core.specs.CoreSeen.{seen_block}
 use Rattle.wy_vc_body.specs.Frames.{body_at}
 use Rattle.wy_vc_body.specs.Paths.{spot_of}
-use Rattle.wy_vc_exprs.proofs.ResultLemmas.{if_ok}
+use Rattle.wy_vc_body.proofs.wy_vc_exprs_proofs.ResultLemmas.{if_ok}
 use Rattle.wy_vc.proofs.CycleLemmas.{body_went}
 use Rattle.wy_vc.proofs.EndLemmas.{paths_none}
 use Rattle.wy_vc.proofs.MoveLemmas.{le_from, le_self}

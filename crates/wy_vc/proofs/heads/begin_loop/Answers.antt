@@ -5,9 +5,9 @@ use Rattle.wy_vc_spec.specs.Sizes.{exprs_in}
 use Rattle.wy_vc_body.specs.Frames.{body_at}
 use Rattle.wy_vc_body.proofs.FrameLemmas.{frame_on}
 use Rattle.wy_vc_body.specs.Paths.{spot_of}
-use Rattle.wy_vc_exprs.specs.Slots.{AreSlots}
-use Rattle.wy_vc_exprs.proofs.ResultLemmas.{if_ok}
-use Rattle.wy_vc_exprs.proofs.SlotLemmas.{slots_on}
+use Rattle.wy_vc_body.specs.wy_vc_exprs.Slots.{AreSlots}
+use Rattle.wy_vc_body.proofs.wy_vc_exprs_proofs.ResultLemmas.{if_ok}
+use Rattle.wy_vc_body.proofs.wy_vc_exprs_proofs.SlotLemmas.{slots_on}
 use Rattle.wy_vc.specs.Heads.{Enters, entered}
 use Rattle.wy_vc.proofs.HeadLemmas.{begins_from}
 use Rattle.wy_vc.proofs.heads.begin_loop.Goals as goal

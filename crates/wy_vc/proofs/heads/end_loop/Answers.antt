@@ -1,6 +1,6 @@
 use Rattle.std.proofs.Common.{arith}
 use Rattle.wy_vc_body.proofs.PathLemmas.{paths_on}
-use Rattle.wy_vc_exprs.proofs.ResultLemmas.{if_ok}
+use Rattle.wy_vc_body.proofs.wy_vc_exprs_proofs.ResultLemmas.{if_ok}
 use Rattle.wy_vc.specs.Rounds.{around}
 use Rattle.wy_vc.proofs.HeadLemmas.{closes_from}
 use Rattle.wy_vc.proofs.MoveLemmas.{front_whole, longer_length}

@@ -1,9 +1,9 @@
 use Rattle.std.proofs.Common.{List, Option, ℕ, sym, subst}
 use Rattle.wy_core.specs.CoreSeen.{seen_block, seen_exprs}
 use Rattle.wy_vc_spec.specs.Numbered.{numbered_block, numbered_list}
-use Rattle.wy_vc_exprs.specs.Slots.{AreSlots}
+use Rattle.wy_vc_body.specs.wy_vc_exprs.Slots.{AreSlots}
 use Rattle.wy_vc_body.proofs.FrameLemmas.{frame_on}
-use Rattle.wy_vc_exprs.proofs.SlotLemmas.{slots_on}
+use Rattle.wy_vc_body.proofs.wy_vc_exprs_proofs.SlotLemmas.{slots_on}
 use Rattle.wy_vc.proofs.HeadLemmas.{enters_from, renewed_sound}
 use Rattle.wy_vc.proofs.heads.enter_loop.Goals as goal
 

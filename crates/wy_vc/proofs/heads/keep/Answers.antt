@@ -1,7 +1,7 @@
 use Rattle.std.proofs.Common.{List, Option, ℕ, sym, subst}
 use Rattle.wy_vc_body.specs.Frames.{body_at}
-use Rattle.wy_vc_exprs.specs.Slots.{AreSlots}
-use Rattle.wy_vc_exprs.proofs.ResultLemmas.{on_ok}
+use Rattle.wy_vc_body.specs.wy_vc_exprs.Slots.{AreSlots}
+use Rattle.wy_vc_body.proofs.wy_vc_exprs_proofs.ResultLemmas.{on_ok}
 use Rattle.wy_vc.specs.Flows.{IsEndOf}
 use Rattle.wy_vc.specs.Rounds.{around}
 use Rattle.wy_vc.proofs.HeadLemmas.{kept_none, kept_some}

@@ -5,7 +5,7 @@ use Rattle.wy_vc.specs.Meanings.{AreMeanings}
 use Rattle.wy_vc.specs.Told.{IsCond, seen_cond}
 use Rattle.wy_vc.specs.declared.unfolding.Meaning.{Meaning}
 use Rattle.wy_vc_tables.specs.program_names.Described.{setting}
-use Rattle.wy_vc_exprs.specs.State.{owed_of}
+use Rattle.wy_vc_body.specs.wy_vc_exprs.State.{owed_of}
 use Rattle.wy_vc.proofs.ConditionLemmas.{are_first, first_is, goals_on, limit_is, list_is, types_once}
 use Rattle.wy_vc.proofs.listing.first_conditions.Goals as goal
 

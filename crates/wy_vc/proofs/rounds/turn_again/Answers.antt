@@ -1,5 +1,5 @@
 use Rattle.std.proofs.Common.{List, Option, ℕ, sym, subst}
-use Rattle.wy_vc_exprs.specs.Slots.{AreSlots}
+use Rattle.wy_vc_body.specs.wy_vc_exprs.Slots.{AreSlots}
 use Rattle.wy_vc.specs.Rounds.{around}
 use Rattle.wy_vc.proofs.SimpleLemmas.{again_went}
 use Rattle.wy_vc.proofs.rounds.turn_again.Goals as goal

@@ -2,8 +2,8 @@ use Rattle.std.proofs.Common.{List, Option, ℕ, sym, subst}
 use Rattle.wy_core.specs.CoreSeen.{seen_expr, seen_ty}
 use Rattle.wy_vc_spec.specs.Numbered.{numbered}
 use Rattle.wy_vc_body.proofs.FrameLemmas.{frame_on}
-use Rattle.wy_vc_exprs.specs.Slots.{AreSlots}
-use Rattle.wy_vc_exprs.proofs.SlotLemmas.{slots_on}
+use Rattle.wy_vc_body.specs.wy_vc_exprs.Slots.{AreSlots}
+use Rattle.wy_vc_body.proofs.wy_vc_exprs_proofs.SlotLemmas.{slots_on}
 use Rattle.wy_vc.proofs.SimpleLemmas.{valued_went, walked_by}
 use Rattle.wy_vc.proofs.simple.declare_value.Goals as goal
 

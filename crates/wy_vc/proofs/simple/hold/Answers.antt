@@ -1,10 +1,10 @@
 use Rattle.std.proofs.Common.{List, Option, ℕ, refl, sym, subst}
 use Rattle.wy_core.specs.CoreSeen.{seen_expr}
 use Rattle.wy_vc_spec.specs.Numbered.{numbered}
-use Rattle.wy_vc_exprs.specs.Slots.{AreSlots}
-use Rattle.wy_vc_exprs.specs.declared.walk.Walk.{Walk}
-use Rattle.wy_vc_exprs.proofs.NumberedLemmas.{at_itself}
-use Rattle.wy_vc_exprs.proofs.StateLemmas.{sound_made}
+use Rattle.wy_vc_body.specs.wy_vc_exprs.Slots.{AreSlots}
+use Rattle.wy_vc_body.specs.wy_vc_exprs.declared.walk.Walk.{Walk}
+use Rattle.wy_vc_body.proofs.wy_vc_exprs_proofs.NumberedLemmas.{at_itself}
+use Rattle.wy_vc_body.proofs.wy_vc_exprs_proofs.StateLemmas.{sound_made}
 use Rattle.wy_vc.proofs.SimpleLemmas.{held_went, walked_by}
 use Rattle.wy_vc.proofs.simple.hold.Goals as goal
 

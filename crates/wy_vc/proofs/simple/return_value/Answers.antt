@@ -2,8 +2,8 @@ use Rattle.std.proofs.Common.{List, Option, ℕ, sym, subst}
 use Rattle.wy_core.specs.CoreSeen.{seen_expr}
 use Rattle.wy_vc_spec.specs.Numbered.{numbered}
 use Rattle.wy_vc_body.proofs.FrameLemmas.{frame_on}
-use Rattle.wy_vc_exprs.specs.Slots.{AreSlots}
-use Rattle.wy_vc_exprs.proofs.ResultLemmas.{on_ok}
+use Rattle.wy_vc_body.specs.wy_vc_exprs.Slots.{AreSlots}
+use Rattle.wy_vc_body.proofs.wy_vc_exprs_proofs.ResultLemmas.{on_ok}
 use Rattle.wy_vc.proofs.SimpleLemmas.{returned_went, walked_by}
 use Rattle.wy_vc.proofs.simple.return_value.Goals as goal
 

@@ -14,10 +14,10 @@ use Rattle.wy_vc_body.proofs.PathLemmas.{paths_on}
 use Rattle.wy_vc_body.specs.Paths.{spot_of}
 use Rattle.wy_vc_body.proofs.LessLemmas.{body_falls, first_falls, second_falls}
 use Rattle.wy_vc_body.proofs.SeenLemmas.{seen_assert, seen_break, seen_continue, seen_declare, seen_fail, seen_return, seen_skip}
-use Rattle.wy_vc_exprs.specs.Slots.{AreSlots}
-use Rattle.wy_vc_exprs.proofs.NumberedLemmas.{kept_then}
-use Rattle.wy_vc_exprs.proofs.ResultLemmas.{if_ok, on_ok}
-use Rattle.wy_vc_exprs.proofs.SlotLemmas.{slots_on}
+use Rattle.wy_vc_body.specs.wy_vc_exprs.Slots.{AreSlots}
+use Rattle.wy_vc_body.proofs.wy_vc_exprs_proofs.NumberedLemmas.{kept_then}
+use Rattle.wy_vc_body.proofs.wy_vc_exprs_proofs.ResultLemmas.{if_ok, on_ok}
+use Rattle.wy_vc_body.proofs.wy_vc_exprs_proofs.SlotLemmas.{slots_on}
 use Rattle.wy_vc.specs.Rounds.{around}
 use Rattle.wy_vc.proofs.CycleLemmas.{as_form, declare_breaks, fork_base, fork_on, form_node, if_at, if_node, quiet_value, return_breaks, round_on, skipped, turn_base, turn_on, while_at, while_node}
 use Rattle.wy_vc.proofs.EndLemmas.{end_are}

@@ -1,7 +1,7 @@
 use Rattle.std.proofs.Common.{All, length}
 use Rattle.wy_vc_spec.specs.Numbered.{Node}
 use Rattle.wy_vc_spec.specs.Values.{Setting}
-use Rattle.wy_vc_exprs.specs.State.{IsGoal}
+use Rattle.wy_vc_body.specs.wy_vc_exprs.State.{IsGoal}
 use Rattle.wy_vc.specs.Meanings.{AreMeanings}
 use Rattle.wy_vc.specs.Standing.{Stands}
 use Rattle.wy_vc.proofs.ToldLemmas.{AreTold}

@@ -3,7 +3,7 @@ use Rattle.wy_vc_spec.specs.Numbered.{numbered_alias}
 use Rattle.wy_vc_spec.specs.Programs.{alias_conditions}
 use Rattle.wy_core.specs.CoreSeen.{seen_alias}
 use Rattle.wy_vc_body.specs.Frames.{program_of}
-use Rattle.wy_vc_exprs.proofs.ResultLemmas.{on_ok}
+use Rattle.wy_vc_body.proofs.wy_vc_exprs_proofs.ResultLemmas.{on_ok}
 use Rattle.wy_vc.specs.Entering.{Owes}
 use Rattle.wy_vc.proofs.OwingLemmas.{owes_nothing}
 use Rattle.wy_vc.proofs.types.owe_type.Goals as goal

@@ -1,9 +1,9 @@
 use Rattle.std.proofs.Common.{List, Option, ℕ, refl, ◌∙◌, ap}
 use Rattle.wy_vc_spec.specs.Variables.{put as slot_put}
 use Rattle.wy_vc_body.specs.Frames.{program_of}
-use Rattle.wy_vc_exprs.specs.declared.walk.Walk.{Walk}
-use Rattle.wy_vc_exprs.proofs.ResultLemmas.{on_ok}
-use Rattle.wy_vc_exprs.proofs.StateLemmas.{sound_made}
+use Rattle.wy_vc_body.specs.wy_vc_exprs.declared.walk.Walk.{Walk}
+use Rattle.wy_vc_body.proofs.wy_vc_exprs_proofs.ResultLemmas.{on_ok}
+use Rattle.wy_vc_body.proofs.wy_vc_exprs_proofs.StateLemmas.{sound_made}
 use Rattle.wy_vc.proofs.OwingLemmas.{begun_sound, one_slot, type_owes}
 use Rattle.wy_vc.proofs.types.owe_type_clauses.Goals as goal
 

@@ -1,4 +1,4 @@
-use Rattle.wy_term.specs.Nodes.{tree_at}
+use Rattle.wy_term_text.specs.wy_term.Nodes.{tree_at}
 use Rattle.wy_cert.proofs.writing_lemmas.ProductLemmas.{cert_product}
 use Rattle.wy_cert.proofs.writing.write.has_product.Goals as goal
 

@@ -1,5 +1,5 @@
 use Rattle.std.proofs.Common.{◌≡◌, ℕ, drop}
-use Rattle.wy_term.specs.Term.{Term}
+use Rattle.wy_term_text.specs.wy_term.Term.{Term}
 use Rattle.wy_cert.specs.Steps.{written}
 use Rattle.wy_cert.specs.writing.Text.{some_pass, is_product}
 use Rattle.wy_cert.proofs.writing.write.have_product.Given as goal

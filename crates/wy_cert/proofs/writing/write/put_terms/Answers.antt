@@ -1,5 +1,5 @@
 use Rattle.std.proofs.Common.{rules, arith, ◌≤◌, length}
-use Rattle.wy_term.specs.Nodes.{tree_at}
+use Rattle.wy_term_text.specs.wy_term.Nodes.{tree_at}
 use Rattle.wy_cert.proofs.writing_lemmas.WriteLemmas.{others, arguments_end_at}
 use Rattle.wy_cert.proofs.writing.write.put_terms.Goals as goal
 

@@ -3,7 +3,7 @@ use Rattle.wy_check_nodes.specs.declared.fronts.front.Size.{Size}
 use Rattle.wy_check_nodes.specs.fronts.Front.{AreMade}
 use Rattle.wy_check_spec.specs.judge.Node.{bare, with_formulas}
 use Rattle.wy_check_nodes.specs.Seen.{AreBelow}
-use Rattle.wy_term.specs.Nodes.{tree_at}
+use Rattle.wy_check_spec.specs.wy_term.Nodes.{tree_at}
 use Rattle.wy_check_nodes.proofs.fronts.front.no_front.Goals as goal
 
 pub returns : goal.returns

@@ -1,7 +1,7 @@
 use Rattle.std.proofs.Common.{◌∙◌, ℕ, List, ap, map}
 use Rattle.wy_check_nodes.proofs.fronts_lemmas.FrontLemmas.{made_whole}
 use Rattle.wy_check_spec.specs.judge.Node.{Node, bare, denied_one, with_formulas}
-use Rattle.wy_term.specs.Nodes.{tree_at}
+use Rattle.wy_check_spec.specs.wy_term.Nodes.{tree_at}
 use Rattle.wy_check_nodes.proofs.fronts.front.to_first_node.Goals as goal
 
 pub returns-clause-value : goal.returns-clause-value

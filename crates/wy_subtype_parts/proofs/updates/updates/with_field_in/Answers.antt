@@ -1,13 +1,13 @@
 use Rattle.std.proofs.Common.{◌≡◌, ◌∙◌, ℕ, List, [], ap, subst}
 use Rattle.wy_core.specs.Types.{NormalTy}
 use Rattle.wy_core.specs.CoreSeen.{seen_ty}
-use Rattle.wy_types.specs.declared.conjuncts.Signed.{Signed}
-use Rattle.wy_types.specs.declared.conjuncts.Part.{Part}
-use Rattle.wy_types.specs.Conjuncts.{dnf_part}
-use Rattle.wy_types.specs.Names.{types_of}
-use Rattle.wy_types.specs.Questions.{first_part}
-use Rattle.wy_types.specs.Reach.{IsWide}
-use Rattle.wy_types.specs.Reading.{ty_at, conjuncts_at}
+use Rattle.wy_subtype.specs.wy_types.declared.conjuncts.Signed.{Signed}
+use Rattle.wy_subtype.specs.wy_types.declared.conjuncts.Part.{Part}
+use Rattle.wy_subtype.specs.wy_types.Conjuncts.{dnf_part}
+use Rattle.wy_subtype.specs.wy_types.Names.{types_of}
+use Rattle.wy_subtype.specs.wy_types.Questions.{first_part}
+use Rattle.wy_subtype.specs.wy_types.Reach.{IsWide}
+use Rattle.wy_subtype.specs.wy_types.Reading.{ty_at, conjuncts_at}
 use Rattle.wy_subtype.specs.Valued.{AreThose}
 use Rattle.wy_subtype_parts.specs.updates.Updates.{records_of, second_part}
 use Rattle.wy_subtype_parts.proofs.updates_lemmas.UpdateLemmas.{is_with, not_wide}

@@ -1,6 +1,6 @@
 use Rattle.std.proofs.Common.{rules, ◌≡◌, map}
 use Rattle.wy_term_text.specs.spell.View.{seen}
-use Rattle.wy_data.specs.scan.Words.{IsNumberedAt}
+use Rattle.wy_term.specs.wy_data.scan.Words.{IsNumberedAt}
 use Rattle.wy_term.specs.Folding.{binder}
 use Rattle.wy_term_text.specs.spell.Heads.{parted}
 use Rattle.wy_term_text.proofs.spell_lemmas.GoesUp.{cover_binder}

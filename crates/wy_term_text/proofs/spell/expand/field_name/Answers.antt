@@ -1,6 +1,6 @@
 use Rattle.std.proofs.Common.{rules, ◌≡◌, [], ◌∷◌, codes, map}
-use Rattle.wy_data.specs.scan.Words.{IsWordAt}
-use Rattle.wy_data.specs.scan.Front.{IsBehind}
+use Rattle.wy_term.specs.wy_data.scan.Words.{IsWordAt}
+use Rattle.wy_term.specs.wy_data.scan.Front.{IsBehind}
 use Rattle.wy_term.specs.Term as term
 use Rattle.wy_term_text.specs.spell.Todo.{word, root}
 use Rattle.wy_term_text.specs.spell.View.{seen}

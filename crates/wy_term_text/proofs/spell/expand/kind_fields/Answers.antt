@@ -1,5 +1,5 @@
 use Rattle.std.proofs.Common.{rules, ◌≡◌, ◌↔◌, false, IsTrue}
-use Rattle.wy_data.specs.scan.Words.{AreFields}
+use Rattle.wy_term.specs.wy_data.scan.Words.{AreFields}
 use Rattle.wy_term_text.proofs.spell_lemmas.KindUp.{refuse_last_kind_field, kind_fields_more}
 use Rattle.wy_term_text.proofs.spell.expand.kind_fields.Goals as goal
 

@@ -1,7 +1,7 @@
 use Rattle.std.proofs.Common.{rules, ◌≡◌, [], ◌∷◌, codes, map}
 use Rattle.wy_term_text.specs.spell.View.{seen}
 use Rattle.wy_term.specs.Term as term
-use Rattle.wy_data.specs.scan.Words.{IsWordAt}
+use Rattle.wy_term.specs.wy_data.scan.Words.{IsWordAt}
 use Rattle.wy_term.specs.Sorts.{val_sort}
 use Rattle.wy_term_text.specs.spell.Todo.{a_term, word, root}
 use Rattle.wy_term_text.proofs.spell_lemmas.GoesUp.{cover_set_field_name, refuse_set_field_second}

@@ -1,7 +1,7 @@
 use Rattle.std.proofs.Common.{rules, arith, ◌≡◌, ◌≤◌, ◌^◌, [], ◌∷◌, codes, map}
 use Rattle.wy_term_text.specs.spell.View.{seen}
 use Rattle.wy_term.specs.Term as term
-use Rattle.wy_data.specs.scan.Numbers.{IsNaturalAt}
+use Rattle.wy_term.specs.wy_data.scan.Numbers.{IsNaturalAt}
 use Rattle.wy_term_text.specs.spell.Todo.{word, root}
 use Rattle.wy_term_text.proofs.spell_lemmas.GoesUp.{cover_type_number, refuse_large_type}
 use Rattle.wy_term_text.proofs.spell.expand.type_number.Goals as goal
