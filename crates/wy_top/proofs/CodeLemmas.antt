@@ -12,8 +12,8 @@ use Rattle.wy_gen_sources.proofs.source_ints_lemmas.FieldNameLemmas.{named_field
 use Rattle.wy_core.specs.formed.Literals.{Ints}
 use Rattle.wy_gen_sources.proofs.wy_names_proofs.resolved_lemmas.LiteralLemmas.{named_ints_alone}
 use Rattle.wy_top_source.specs.texts.Sources.{IsProgram}
-use Rattle.wy_gen_sources.proofs.source_ints_lemmas.ProgramFields.{read-fields}
-use Rattle.wy_gen_sources.proofs.source_ints_lemmas.ProgramInts.{read-ints}
+use Rattle.wy_gen_sources.proofs.source_ints_lemmas.ProgramLeaves.{read-fields}
+use Rattle.wy_gen_sources.proofs.source_ints_lemmas.ProgramLeaves.{read-ints}
 
 pub source_loadable : (bytes : List ℕ) (core : Core ℕ) (flow : List Ty) → IsProgram bytes core flow → IsLoadable (code_of core)
 source_loadable bytes core flow p =

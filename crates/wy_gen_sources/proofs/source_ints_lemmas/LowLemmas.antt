@@ -1,4 +1,4 @@
--- What holds of measured parts that are low enough.
+-- What holds of measured parts that are low enough, and two walks over one tree at once.
 use Rattle.std.proofs.Common.{ℕ, ◌+◌, Bool, true, false, List, [], ◌∷◌, ◌++◌, nat_lt, if◌then◌else◌}
 use Rattle.wy_ast.specs.declared.types.Ty.{Ty}
 use Rattle.wy_ast.specs.declared.types.TyKind.{TyKind}
@@ -57,3 +57,13 @@ low-expr P at (Low kind h) p = by (nat_lt h highest)
     by : (b : Bool) → OnLow P (if b then Low whole (h + 1) else High at)
     by true = p
     by false = tt
+
+-- what two walks know of each part, as what each of them knows of all parts
+pub crossed : {A B C D : Type 0} → A × B → C × D → (A × C) × (B × D)
+crossed p q = ((p.0, q.0), (p.1, q.1))
+
+pub crossed_three : {A B C D E F : Type 0} → A × B → C × D → E × F → (A × C × E) × (B × D × F)
+crossed_three p q r = ((p.0, q.0, r.0), (p.1, q.1, r.1))
+
+pub crossed_four : {A B C D E F G H : Type 0} → A × B → C × D → E × F → G × H → (A × C × E × G) × (B × D × F × H)
+crossed_four p q r s = ((p.0, q.0, r.0, s.0), (p.1, q.1, r.1, s.1))

@@ -1,5 +1,5 @@
--- The blocks that are read have names in the records and behind the dots of their expressions.
-use Rattle.std.proofs.Common.{◌≡◌, ℕ, ℤ, zero, suc, true, List, [], ◌∷◌, ◌++◌, map, Option, Some, None, refl, sym, subst, rules}
+-- The blocks that are read: names of fields, numbers and codes of texts are what they should be.
+use Rattle.std.proofs.Common.{◌≡◌, ◌==◌, ℕ, pos, negsuc, zero, suc, Bool, true, false, true≢false, cond, nat_le, List, [], ◌∷◌, ◌++◌, map, Option, Some, None, refl, sym, subst, rules}
 use Rattle.wy_ast.specs.SurfaceTree as tree
 use Rattle.std.specs.Option.{option_map}
 use Rattle.wy_ast.specs.SurfaceSeen.{SeenCase, switch_of, stmt_kind_layer, case_layer, stmt_layer, seen_expr, seen_exprs, seen_stmt, seen_block}
@@ -9,12 +9,15 @@ use Rattle.wy_ast.specs.declared.statements.Stmt as s
 use Rattle.wy_ast.specs.declared.statements.Stmt.{Stmt}
 use Rattle.wy_ast.specs.declared.statements.StmtKind.TheVariants as stmt
 use Rattle.wy_ast.specs.declared.statements.Case.{Case, roll-Case, fold-Case}
-use Rattle.wy_reading.specs.Rule.{Refused}
+use Rattle.wy_reading.specs.Rule.{Refused, among}
+use Rattle.wy_core.specs.formed.Literals.{IsInt}
+use Rattle.wy_print_laws.specs.wy_lex.declared.token.TokenKind.{TokenKind}
+use Rattle.wy_print_laws.specs.wy_lex.declared.token.TokenKind.TheVariants as k
 use Rattle.wy_print_laws.specs.wy_parse_grammar.declared.measured.Measured.TheVariants.{Low}
 use Rattle.wy_print_laws.specs.wy_parse_grammar.declared.fault.Kind.TheVariants.{Deep}
 use Rattle.wy_print_laws.specs.wy_parse_grammar.declared.sort.Class.TheVariants as kinds
 use Rattle.wy_print_laws.specs.wy_parse_grammar.Sorts as t
-use Rattle.wy_print_laws.specs.wy_parse_grammar.Sorts.{has, is}
+use Rattle.wy_print_laws.specs.wy_parse_grammar.Sorts.{has, is, sort}
 use Rattle.wy_print_laws.specs.wy_parse_grammar.Steps.{R}
 use Rattle.wy_print_laws.specs.wy_parse_grammar.Trees.{both, made, pushed, none, some}
 use Rattle.wy_print_laws.specs.wy_parse_grammar.ExprGrammar.{E, literal_kind, touches, opposite}
@@ -22,26 +25,40 @@ use Rattle.wy_print_laws.specs.wy_parse_grammar.LabelGrammar.{Negative, LabelWor
 use Rattle.wy_print_laws.specs.wy_parse.StmtTrees as trees
 use Rattle.wy_print_laws.specs.wy_parse.StmtTrees.{S, Stmts, Cases}
 use Rattle.wy_print_laws.specs.wy_parse.BlockGrammar.{CaseList, Otherwise, WhileStmt, DoStmt, ForStmt, IfStmt, CaseRest, Default, Nest, width, Switch, Statement, Piece, Rest, BlockOf, Block, ShutBlock, LastOut, nest}
-use Rattle.wy_gen_sources.proofs.source_ints_lemmas.StmtInts.{stmt_at}
-use Rattle.wy_gen_sources.specs.source_ints.SourceFields.{FieldsClauses, FieldsStmt, FieldsStmts, FieldsCases}
-use Rattle.wy_print_laws.proofs.round_lemmas.Gives.{Gives, gives-pure, gives-one, gives-then, gives-or, gives-loop, gives-refused, gives-unless, Anything, gives-mark, gives-name}
-use Rattle.wy_gen_sources.proofs.source_ints_lemmas.LowLemmas.{OnLow, AllOf, all-more, low-both, low-made, low-pushed}
-use Rattle.wy_gen_sources.proofs.source_ints_lemmas.ExprFields.{IsExpr, IsE, int-expr, literal-expr, gives-expr, gives-sum_in}
-use Rattle.wy_gen_sources.proofs.source_ints_lemmas.StmtFields.{IsStmt, IsS, IsBlock, all-stmts, all-clauses, if-s, while-s, do-s, for-s, gives-word_stmt, gives-return, gives-assert, gives-declare, gives-named, gives-wheres, low-stmt}
+use Rattle.wy_names.specs.resolved.SourceLiterals.{SourceClauses, SourceStmts, SourceCases}
+use Rattle.wy_gen_sources.specs.source_ints.SourceFields.{FieldsClauses, FieldsStmts, FieldsCases}
+use Rattle.wy_print_laws.proofs.round_lemmas.Gives.{Gives, gives-pure, gives-one, gives-then, gives-or, gives-loop, gives-refused, gives-unless, gives-mark, gives-name}
+use Rattle.wy_gen_sources.proofs.source_ints_lemmas.LowLemmas.{OnLow, AllOf, all-more, low-both, low-made, low-pushed, crossed, crossed_three}
+use Rattle.wy_gen_sources.proofs.source_ints_lemmas.ExprLeaves.{IsExpr, IsE, int-expr, literal-expr, opposite-int, gives-expr, gives-sum_in}
+use Rattle.wy_gen_sources.proofs.source_ints_lemmas.StmtLeaves.{stmt_at, StmtLeavesOf, IsStmt, IsS, IsBlock, all-stmts, all-clauses, if-s, while-s, do-s, for-s, gives-word_stmt, gives-return, gives-assert, gives-declare, gives-named, gives-wheres, low-stmt}
 
 -- ---- labels
 
-gives-label_word : Gives LabelWord IsExpr
-gives-label_word = gives-then (gives-one (has kinds.LabelWord)) (λ w h. gives-pure (record { at = w.at; kind = literal_kind w.kind }) IsExpr (literal-expr w.at w.kind))
+-- a label is a literal, but for a text
+a_literal : (kind : TokenKind) → among (t.members kinds.LabelWord) (sort kind) ≡ true → among (t.members kinds.Literal) (sort kind) ≡ true
+a_literal (k.Numeral (pos n)) h = by (nat_le n 39614081257132168796771975167) (n == 39614081257132168796771975168) h
+  where
+    by : (a b : Bool) → among (t.members kinds.LabelWord) (cond a t.NUMERAL (cond b t.BEYOND t.NO_NUMERAL)) ≡ true → among (t.members kinds.Literal) (cond a t.NUMERAL (cond b t.BEYOND t.NO_NUMERAL)) ≡ true
+    by true b g = refl
+    by false true g = absurd (true≢false (sym g))
+    by false false g = absurd (true≢false (sym g))
+a_literal (k.Numeral (negsuc n)) h = absurd (true≢false (sym h))
+a_literal k.Null h = refl
+a_literal k.True h = refl
+a_literal k.False h = refl
+a_literal _ h = absurd (true≢false (sym h))
 
-gives-negative : (at : ℕ) → Gives (Negative at) (Anything {A = ℤ})
+gives-label_word : Gives LabelWord IsExpr
+gives-label_word = gives-then (gives-one (has kinds.LabelWord)) (λ w h. gives-pure (record { at = w.at; kind = literal_kind w.kind }) IsExpr (literal-expr w.at w.kind (a_literal w.kind h.0) h.1))
+
+gives-negative : (at : ℕ) → Gives (Negative at) IsInt
 gives-negative at =
-    gives-or (gives-then (gives-one (touches at)) (λ w h. gives-pure (opposite w.kind) (Anything {A = ℤ}) tt))
-    (gives-unless (touches at) (gives-then (gives-one (is t.NUMERAL)) (λ w h. gives-pure (opposite w.kind) (Anything {A = ℤ}) tt)))
+    gives-or (gives-then (gives-one (touches at)) (λ w h. gives-pure (opposite w.kind) IsInt (opposite-int w.kind)))
+    (gives-unless (touches at) (gives-then (gives-one (is t.NUMERAL)) (λ w h. gives-pure (opposite w.kind) IsInt (opposite-int w.kind))))
 
 gives-label : (ls : List Expr) → AllOf IsExpr ls → Gives (Label ls) (AllOf IsExpr)
 gives-label ls r =
-    gives-or (gives-then (gives-mark t.MINUS) (λ at h. gives-then (gives-negative at) (λ n g. gives-pure (ls ++ (record { at = at; kind = e.Int n }) ∷ []) (AllOf IsExpr) (all-more IsExpr ls (record { at = at; kind = e.Int n }) r (int-expr at n)))))
+    gives-or (gives-then (gives-mark t.MINUS) (λ at h. gives-then (gives-negative at) (λ n g. gives-pure (ls ++ (record { at = at; kind = e.Int n }) ∷ []) (AllOf IsExpr) (all-more IsExpr ls (record { at = at; kind = e.Int n }) r (int-expr at n g)))))
     (gives-then gives-label_word (λ l p. gives-pure (ls ++ l ∷ []) (AllOf IsExpr) (all-more IsExpr ls l r p)))
 
 gives-next_label : (ls : List Expr) → AllOf IsExpr ls → Gives (NextLabel ls) (AllOf IsExpr)
@@ -53,23 +70,23 @@ gives-labels = gives-then (gives-label [] tt) (λ ls r. gives-loop gives-next_la
 
 -- ---- switches
 
-abbrev pub see : Case → SeenCase
+abbrev see : Case → SeenCase
 see x = fold-Case (ℕ → tree.Stmt) SeenCase tree.Stmt stmt_kind_layer case_layer stmt_layer x
 
-pub seen_rolled : (labels : List Expr) (body : List Stmt) → see (roll-Case (record { labels = labels; body = body })) ≡ (seen_exprs labels, seen_block body)
+seen_rolled : (labels : List Expr) (body : List Stmt) → see (roll-Case (record { labels = labels; body = body })) ≡ (seen_exprs labels, seen_block body)
 seen_rolled labels body = search (rules, s.the_lemmas)
 
-pub seen_switch : (x : Stmt) (a : Expr) (cs : List Case) → x.kind ≡ stmt.Switch a cs None → seen_stmt x ≡ tree.SwitchStmt x.at (seen_expr a) (tree.cases_of (map see cs))
+seen_switch : (x : Stmt) (a : Expr) (cs : List Case) → x.kind ≡ stmt.Switch a cs None → seen_stmt x ≡ tree.SwitchStmt x.at (seen_expr a) (tree.cases_of (map see cs))
 seen_switch x a cs same = search (rules, s.the_lemmas)
 
-pub seen_switch_any : (x : Stmt) (a : Expr) (cs : List Case) (d : Option (List Stmt)) → x.kind ≡ stmt.Switch a cs d → seen_stmt x ≡ switch_of x.at (seen_expr a) (tree.cases_of (map see cs)) (option_map (map seen_stmt) d)
+seen_switch_any : (x : Stmt) (a : Expr) (cs : List Case) (d : Option (List Stmt)) → x.kind ≡ stmt.Switch a cs d → seen_stmt x ≡ switch_of x.at (seen_expr a) (tree.cases_of (map see cs)) (option_map (map seen_stmt) d)
 seen_switch_any x a cs d same = search (rules, s.the_lemmas)
 
-pub seen_switch_else : (x : Stmt) (a : Expr) (cs : List Case) (ss : List Stmt) → x.kind ≡ stmt.Switch a cs (Some ss) → seen_stmt x ≡ tree.SwitchElseStmt x.at (seen_expr a) (tree.cases_of (map see cs)) (seen_block ss)
+seen_switch_else : (x : Stmt) (a : Expr) (cs : List Case) (ss : List Stmt) → x.kind ≡ stmt.Switch a cs (Some ss) → seen_stmt x ≡ tree.SwitchElseStmt x.at (seen_expr a) (tree.cases_of (map see cs)) (seen_block ss)
 seen_switch_else x a cs ss same = seen_switch_any x a cs (Some ss) same
 
 abbrev SeenIs : SeenCase → Type 0
-SeenIs y = FieldsClauses y.0 × FieldsStmts y.1
+SeenIs y = (SourceClauses y.0 × FieldsClauses y.0) × (SourceStmts y.1 × FieldsStmts y.1)
 
 abbrev IsCase : Case → Type 0
 IsCase x = SeenIs (see x)
@@ -77,9 +94,9 @@ IsCase x = SeenIs (see x)
 abbrev AreCases : CaseList → Type 0
 AreCases m = OnLow (AllOf IsCase) m
 
-all-cases : (cs : List Case) → AllOf IsCase cs → FieldsCases (tree.cases_of (map see cs))
-all-cases [] h = tt
-all-cases (x ∷ cs) h = (h.0.0, h.0.1, all-cases cs h.1)
+all-cases : (cs : List Case) → AllOf IsCase cs → SourceCases (tree.cases_of (map see cs)) × FieldsCases (tree.cases_of (map see cs))
+all-cases [] h = (tt, tt)
+all-cases (x ∷ cs) h = crossed_three h.0.0 h.0.1 (all-cases cs h.1)
 
 abbrev IsDefault : Option (List Stmt) → Type 0
 IsDefault None = Unit {0}
@@ -92,8 +109,8 @@ abbrev IsCases : Cases → Type 0
 IsCases m = OnLow IsSwitch m
 
 switch-one : (at : ℕ) (a : Expr) (cs : List Case) (d : Option (List Stmt)) → IsExpr a → AllOf IsCase cs → IsDefault d → IsStmt (stmt_at at (stmt.Switch a cs d))
-switch-one at a cs None p q r = subst (λ (z : tree.Stmt). FieldsStmt z) (sym (seen_switch (stmt_at at (stmt.Switch a cs None)) a cs refl)) (p, all-cases cs q)
-switch-one at a cs (Some ss) p q r = subst (λ (z : tree.Stmt). FieldsStmt z) (sym (seen_switch_else (stmt_at at (stmt.Switch a cs (Some ss))) a cs ss refl)) (p, all-cases cs q, all-stmts ss r)
+switch-one at a cs None p q r = subst StmtLeavesOf (sym (seen_switch (stmt_at at (stmt.Switch a cs None)) a cs refl)) (crossed p (all-cases cs q))
+switch-one at a cs (Some ss) p q r = subst StmtLeavesOf (sym (seen_switch_else (stmt_at at (stmt.Switch a cs (Some ss))) a cs ss refl)) (crossed_three p (all-cases cs q) (all-stmts ss r))
 
 switch-s : (at : ℕ) (value : E) (cases : Cases) → IsE value → IsCases cases → IsS (trees.switch_node at value cases)
 switch-s at value cases p q =

@@ -1,4 +1,4 @@
--- The programs that are read have names in their records and behind their dots.
+-- The programs that are read: names of fields are names, numbers `int`s, codes of texts bytes.
 use Rattle.std.proofs.Common.{◌∙◌, ℕ, ◌+◌, Bool, true, false, List, [], ◌∷◌, ◌++◌, map, Option, Some, None, sym, subst}
 use Rattle.wy_lemmas.proofs.Equations.{Free}
 use Rattle.wy_reading.specs.Rule.{Finish, Whole}
@@ -27,29 +27,30 @@ use Rattle.wy_print_laws.specs.wy_parse.DeclTrees.{Params, Clauses, Contract, Gi
 use Rattle.wy_print_laws.specs.wy_parse.ProgramGrammar.{Typed, InnerType, NamedType, MethodResult, OneParam, NextParam, Parameters, AliasClauses, AliasDecl, PropertyDecl, Clause, ContractOf, FunctionDecl, MethodDecl, Declaration, has_place, Capped, Counted, NextDecl, Import, ProgramIn}
 use Rattle.wy_print_laws.specs.wy_parse.Derivation.{Derives, profile}
 use Rattle.wy_print_laws.specs.wy_parse_front.Front.{Spells}
+use Rattle.wy_names.specs.resolved.SourceLiterals.{SourceDecl, SourceInts}
 use Rattle.wy_gen_sources.specs.source_ints.SourceFields.{FieldsDecl, FieldsAreNames}
 use Rattle.wy_print_laws.proofs.round_lemmas.Gives.{Gives, Proper, gives-pure, gives-then, gives-or, gives-loop, gives-refused, gives-unless, gives-mark, gives-name}
-use Rattle.wy_gen_sources.proofs.source_ints_lemmas.LowLemmas.{OnLow, AllOf, low-both, low-made, low-pushed}
+use Rattle.wy_gen_sources.proofs.source_ints_lemmas.LowLemmas.{OnLow, AllOf, low-both, low-made, low-pushed, crossed, crossed_three}
 use Rattle.wy_gen_sources.proofs.source_ints_lemmas.TypeFields.{IsTy, IsT, gives-type, gives-type_rest}
-use Rattle.wy_gen_sources.proofs.source_ints_lemmas.ExprFields.{IsExpr, AreArgs, gives-expr}
-use Rattle.wy_gen_sources.proofs.source_ints_lemmas.StmtFields.{IsStmt, IsBlock, all-stmts, all-clauses, gives-where, gives-wheres}
-use Rattle.wy_gen_sources.proofs.source_ints_lemmas.BlockFields.{gives-nest}
+use Rattle.wy_gen_sources.proofs.source_ints_lemmas.ExprLeaves.{IsExpr, AreArgs, gives-expr}
+use Rattle.wy_gen_sources.proofs.source_ints_lemmas.StmtLeaves.{IsStmt, IsBlock, all-stmts, all-clauses, gives-where, gives-wheres}
+use Rattle.wy_gen_sources.proofs.source_ints_lemmas.BlockLeaves.{gives-nest}
 
 -- ---- nodes
 
 abbrev IsDecl : Decl → Type 0
-IsDecl x = FieldsDecl (seen_decl x)
+IsDecl x = SourceDecl (seen_decl x) × FieldsDecl (seen_decl x)
 
 abbrev IsD : D → Type 0
 IsD m = OnLow IsDecl m
 
-pub low-free : {A : Type 0} (m : Measured A) → OnLow Free m
+low-free : {A : Type 0} (m : Measured A) → OnLow Free m
 low-free (Low a h) = tt
 low-free (High at) = tt
 
 alias-d : (at : ℕ) (name : List ℕ) (ty : T) (variable : Option (List ℕ)) (es : Clauses) → IsT ty → AreArgs es → IsD (alias_node at name ty variable es)
 alias-d at name ty variable es p q =
-    low-made (λ (z : Ty × List Expr). IsTy z.0 × AllOf IsExpr z.1) IsDecl (λ z. decl.Alias (record { at = at; name = name; ty = z.0; variable = variable; clauses = z.1 })) (both ty es) (λ z h. (h.0, all-clauses z.1 h.1)) (low-both IsTy (AllOf IsExpr) ty es p q)
+    low-made (λ (z : Ty × List Expr). IsTy z.0 × AllOf IsExpr z.1) IsDecl (λ z. decl.Alias (record { at = at; name = name; ty = z.0; variable = variable; clauses = z.1 })) (both ty es) (λ z h. let c = all-clauses z.1 h.1 in (c.0, (h.0, c.1))) (low-both IsTy (AllOf IsExpr) ty es p q)
 
 property-d : (at : ℕ) (name : List ℕ) (ps : Params) (es : Clauses) → AreArgs es → IsD (property_node at name ps es)
 property-d at name ps es q =
@@ -65,17 +66,17 @@ function-d : (at : ℕ) (name : List ℕ) (ps : Params) (res : Given) (c : Contr
 function-d at name ps res c body p q r =
     low-made (λ (z : (List Param × (Ty × Option (List ℕ))) × ((List Expr × List Expr) × List Stmt)). Unit {0} × Rest z.1) IsDecl
     (λ z. decl.Function (record { at = at; name = name; params = z.0.0; result = z.0.1.0; result_name = z.0.1.1; preconditions = z.1.0.0; postconditions = z.1.0.1; body = z.1.1 }))
-    (both (both ps res) (both (both c.0 c.1) body)) (λ z h. (all-clauses z.1.0.0 h.1.0.0, all-clauses z.1.0.1 h.1.0.1, all-stmts z.1.1 h.1.1)) (low-both Free Rest (both ps res) (both (both c.0 c.1) body) (low-free (both ps res)) (rest-low c body p q r))
+    (both (both ps res) (both (both c.0 c.1) body)) (λ z h. crossed_three (all-clauses z.1.0.0 h.1.0.0) (all-clauses z.1.0.1 h.1.0.1) (all-stmts z.1.1 h.1.1)) (low-both Free Rest (both ps res) (both (both c.0 c.1) body) (low-free (both ps res)) (rest-low c body p q r))
 
 method-d : (at : ℕ) (name : List ℕ) (ps : Params) (res : Measured (Option (Ty × Option (List ℕ)))) (c : Contract) (body : Stmts) → AreArgs c.0 → AreArgs c.1 → IsBlock body → IsD (method_node at name ps res c body)
 method-d at name ps res c body p q r =
     low-made (λ (z : (List Param × Option (Ty × Option (List ℕ))) × ((List Expr × List Expr) × List Stmt)). Unit {0} × Rest z.1) IsDecl
     (λ z. decl.Method (record { at = at; name = name; params = z.0.0; result = z.0.1; preconditions = z.1.0.0; postconditions = z.1.0.1; body = z.1.1 }))
-    (both (both ps res) (both (both c.0 c.1) body)) (λ z h. (all-clauses z.1.0.0 h.1.0.0, all-clauses z.1.0.1 h.1.0.1, all-stmts z.1.1 h.1.1)) (low-both Free Rest (both ps res) (both (both c.0 c.1) body) (low-free (both ps res)) (rest-low c body p q r))
+    (both (both ps res) (both (both c.0 c.1) body)) (λ z h. crossed_three (all-clauses z.1.0.0 h.1.0.0) (all-clauses z.1.0.1 h.1.0.1) (all-stmts z.1.1 h.1.1)) (low-both Free Rest (both ps res) (both (both c.0 c.1) body) (low-free (both ps res)) (rest-low c body p q r))
 
 -- ---- the rules
 
-abbrev pub IsTyped : Typed → Type 0
+abbrev IsTyped : Typed → Type 0
 IsTyped p = IsT p.0
 
 abbrev AreContract : Contract → Type 0
@@ -168,15 +169,15 @@ AreDecls c = OnLow (AllOf IsDecl) c.0
 gives-next_decl : (rule : R D) → Gives rule IsD → (c : Counted) → AreDecls c → Gives (NextDecl true rule c) AreDecls
 gives-next_decl rule g c r = gives-then (gives-capped (has_place c.1) rule g) (λ d p. gives-pure (pushed c.0 d, c.1 + 1) AreDecls (low-pushed IsDecl c.0 d r p))
 
-pub gives-import : (ms : List (List ℕ × ℕ)) → Unit {0} → Gives (Import ms) Free
+gives-import : (ms : List (List ℕ × ℕ)) → Unit {0} → Gives (Import ms) Free
 gives-import ms u = gives-then (gives-mark t.IMPORT) (λ at h. gives-then gives-name (λ w v. gives-then (gives-mark t.LINE_END) (λ l f. gives-pure (ms ++ (w.1, w.0) ∷ []) Free tt)))
 
 abbrev IsProgram : Program → Type 0
-IsProgram p = FieldsAreNames (map seen_decl p.decls)
+IsProgram p = SourceInts (map seen_decl p.decls) × FieldsAreNames (map seen_decl p.decls)
 
-all-decls : (ds : List Decl) → AllOf IsDecl ds → FieldsAreNames (map seen_decl ds)
-all-decls [] h = tt
-all-decls (d ∷ ds) h = (h.0, all-decls ds h.1)
+all-decls : (ds : List Decl) → AllOf IsDecl ds → SourceInts (map seen_decl ds) × FieldsAreNames (map seen_decl ds)
+all-decls [] h = (tt, tt)
+all-decls (d ∷ ds) h = crossed h.0 (all-decls ds h.1)
 
 program-low : (ms : List (List ℕ × ℕ)) (c : Counted) → AreDecls c → OnLow IsProgram (program_node ms c.0)
 program-low ms c r = low-made (AllOf IsDecl) IsProgram (λ ds. record { imports = ms; decls = ds }) c.0 (λ ds h. all-decls ds h) r
@@ -191,14 +192,17 @@ gives-program n =
     Declaration_of : ℕ → R D
     Declaration_of m = Declaration true m (nest true (inside m)).block
 
-pub gives-finish : Gives Finish Free
+gives-finish : Gives Finish Free
 gives-finish = record { gives = λ i x j r h. (tt, subst Proper (r.0 ∙ sym r.1) h) }
 
-pub gives-whole : {A : Type 0} (P : A → Type 0) (rule : R A) → Gives rule P → Gives (Whole rule) P
+gives-whole : {A : Type 0} (P : A → Type 0) (rule : R A) → Gives rule P → Gives (Whole rule) P
 gives-whole P rule g = gives-then g (λ a p. gives-then gives-finish (λ u v. gives-pure a P p))
 
 derived : (tokens : List Token) (program : Program) → Proper tokens → Derives tokens program → IsProgram program
 derived tokens program h d = let g = gives-whole (OnLow IsProgram) (ProgramIn true profile.depth) (gives-program profile.depth) in (g.gives tokens (Low program d.height) [] d.text h).0
 
 pub read-fields : (bytes : List ℕ) (program : Program) → Spells bytes program → FieldsAreNames (map seen_decl program.decls)
-read-fields bytes program s = derived s.tokens program (proper bytes s.tokens s.cut) s.holds
+read-fields bytes program s = (derived s.tokens program (proper bytes s.tokens s.cut) s.holds).1
+
+pub read-ints : (bytes : List ℕ) (program : Program) → Spells bytes program → SourceInts (map seen_decl program.decls)
+read-ints bytes program s = (derived s.tokens program (proper bytes s.tokens s.cut) s.holds).0
