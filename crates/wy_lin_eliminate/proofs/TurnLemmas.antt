@@ -88,18 +88,18 @@ valid_sum all v l u has_l has_u =
 abbrev Good : List (Linear ℕ) → State → Type 0
 Good forms s = (rest : List LinStep) → refute s.all rest ≡ true → refute forms (s.steps ++ rest) ≡ true
 
-record Grows (s t : State) : Type 0 where
-  more : List (Linear ℕ)
-  grown : t.all ≡ s.all ++ more
+pub record Grows (s t : State) : Type 0 where
+  pub more : List (Linear ℕ)
+  pub grown : t.all ≡ s.all ++ more
 
 abbrev GoodTurn : List (Linear ℕ) → State → Turn → Type 0
 GoodTurn forms s (goes_on t) = Good forms t × Grows s t
 GoodTurn forms s (refuted steps) = refute forms steps ≡ true
 
-no_growth : (s t : State) → t.all ≡ s.all → Grows s t
+pub no_growth : (s t : State) → t.all ≡ s.all → Grows s t
 no_growth s t e = record { more = []; grown = e ∙ sym (append-nil s.all) }
 
-grows_on : (s t u : State) → Grows s t → Grows t u → Grows s u
+pub grows_on : (s t u : State) → Grows s t → Grows t u → Grows s u
 grows_on s t u a b = record { more = a.more ++ b.more; grown = b.grown ∙ ap (λ (l : List (Linear ℕ)). l ++ b.more) a.grown ∙ append_assoc s.all a.more b.more }
 
 turn_on : (forms : List (Linear ℕ)) (s t : State) (x : Turn) → Grows s t → GoodTurn forms t x → GoodTurn forms s x
@@ -110,7 +110,7 @@ good_then : (forms : List (Linear ℕ)) (s : State) (x : Turn) (f : State → Tu
 good_then forms s (goes_on t) f h next = turn_on forms s t (f t) h.1 (next t h.0 h.1)
 good_then forms s (refuted steps) f h next = h
 
-variable_grown : (s t : State) (v i : ℕ) → Grows s t → HasVariable s.all v i → HasVariable t.all v i
+pub variable_grown : (s t : State) (v i : ℕ) → Grows s t → HasVariable s.all v i → HasVariable t.all v i
 variable_grown s t v i a h = subst (λ (l : List (Linear ℕ)). HasVariable l v i) (sym a.grown) (variable_before s.all a.more v i h)
 
 module _ (forms : List (Linear ℕ)) (s : State) (good : Good forms s) where
@@ -156,7 +156,7 @@ abbrev pub AllHave : List (Linear ℕ) → ℕ → List ℕ → Type 0
 AllHave all v [] = Unit {0}
 AllHave all v (i ∷ is) = HasVariable all v i × AllHave all v is
 
-have_grown : (s t : State) (v : ℕ) (is : List ℕ) → Grows s t → AllHave s.all v is → AllHave t.all v is
+pub have_grown : (s t : State) (v : ℕ) (is : List ℕ) → Grows s t → AllHave s.all v is → AllHave t.all v is
 have_grown s t v [] a h = tt
 have_grown s t v (i ∷ is) a h = (variable_grown s t v i a h.0, have_grown s t v is a h.1)
 
@@ -210,7 +210,7 @@ abbrev pub AreAt : List (Linear ℕ) → ℕ → List (Linear ℕ) → Type 0
 AreAt all i [] = Unit {0}
 AreAt all i (f ∷ fs) = (form_at all i ≡ f) × (i < length all) × AreAt all (suc i) fs
 
-at_grown : (all more : List (Linear ℕ)) (i : ℕ) (fs : List (Linear ℕ)) → AreAt all i fs → AreAt (all ++ more) i fs
+pub at_grown : (all more : List (Linear ℕ)) (i : ℕ) (fs : List (Linear ℕ)) → AreAt all i fs → AreAt (all ++ more) i fs
 at_grown all more i [] h = tt
 at_grown all more i (f ∷ fs) h =
     let longer = length-append all more in

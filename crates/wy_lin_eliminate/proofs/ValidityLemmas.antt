@@ -99,7 +99,7 @@ even_parts ps m (q ∷ qs) rs h gives =
     let b = bind_some (plus_part nat_eq ps (Times (2 * m)) q.0 q.1) (λ (ss : List (ℤ × ℕ)). plus_parts nat_eq ss (Times (2 * m)) qs) rs gives in
     even_parts b.0 m qs rs (even_part ps m q.0 q.1 b.0 h b.1) b.2
 
-even_plus : (f : Linear ℕ) (m : ℕ) (g h : Linear ℕ) → AreEven f.parts → plus nat_eq f (Times (2 * m)) g ≡ Some h → AreEven h.parts
+pub even_plus : (f : Linear ℕ) (m : ℕ) (g h : Linear ℕ) → AreEven f.parts → plus nat_eq f (Times (2 * m)) g ≡ Some h → AreEven h.parts
 even_plus f m g h even gives =
     let b = bind_some (plus_parts nat_eq f.parts (Times (2 * m)) g.parts) (λ (ps : List (ℤ × ℕ)). more f.constant (Times (2 * m)) g.constant >>= λ (c : ℤ). some_form (form_with ps c)) h gives in
     let c = bind_some (more f.constant (Times (2 * m)) g.constant) (λ (c : ℤ). some_form (form_with b.0 c)) h b.2 in

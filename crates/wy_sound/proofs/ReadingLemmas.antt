@@ -20,18 +20,10 @@ use Rattle.wy_sound_programs.specs.wy_vc_spec.Programs.{conditions_of}
 use Rattle.wy_sound_programs.specs.wy_sound_terms.formed.OwedConditions.{with_types}
 use Rattle.wy_sound_types.specs.members.Members.{MeetFormulas}
 use Rattle.wy_sound_types.specs.members.Laws.{told_by}
-use Rattle.wy_sound_types.proofs.members_lemmas.MemberLemmas.{some_meet}
+use Rattle.wy_sound_types.proofs.members_lemmas.MemberLemmas.{some_meet, all_unfolded}
 use Rattle.wy_sound.specs.Sound.{Shown}
 use Rattle.wy_sound.specs.Readings.{TellMembers, AllTellMembers, ConditionsTellMembers}
 use Rattle.wy_sound.proofs.SoundLemmas.{member_is}
-
--- data that meet the formulas of all types meet those of listed types
-all_unfolded : (s : Setting Node) (names : Names) (members : ℕ → Datum → Bool) → MeetFormulas s members → names.is_member ≡ members → (ns : List ℕ) → ((n : ℕ) → is_among ns n ≡ true → n < length s.types) → AreUnfolded names (map (unfolded s) ns)
-all_unfolded s names members meet right [] below = tt
-all_unfolded s names members meet right (n ∷ ns) below = (
-  λ d. ap (λ (m : ℕ → Datum → Bool). m n d) right ∙ meet.told n (below n (or_left (eqb n n) (is_among ns n) (eqb_self n))) names right d,
-  all_unfolded s names members meet right ns (λ m t. below m (or_right (eqb n m) (is_among ns m) t)),
-)
 
 module _ (core : Core ℕ) (flow : List Ty) (shown : Shown core flow) (members : ℕ → Datum → Bool) (meet : MeetFormulas (told_by core flow) members) (place : ℕ → ℕ) where
   abbrev s : Setting Node

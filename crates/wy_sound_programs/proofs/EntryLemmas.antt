@@ -42,13 +42,13 @@ entries_mark s r = let start = name_params r.variables r.params (spot [] [] []) 
 
 -- ---- ends of bodies
 
-clauses_any : {X : Type 0} {N : Type 0} (w : sem.Setting N) (why : CondKind) (at : ℕ) (es : List (Expr N)) (s : Store) (next : Run X) (m : Meter) (P : X → Type 0) → ((k : Meter) → Every (next k) P) → Every (sem.clauses w why at es s next m) P
+pub clauses_any : {X : Type 0} {N : Type 0} (w : sem.Setting N) (why : CondKind) (at : ℕ) (es : List (Expr N)) (s : Store) (next : Run X) (m : Meter) (P : X → Type 0) → ((k : Meter) → Every (next k) P) → Every (sem.clauses w why at es s next m) P
 clauses_any w why at [] s next m P h = h m
 clauses_any w why at (e ∷ es) s next m P h =
     every_bind (sem.holds w e s m) (λ b. check b why at (sem.clauses w why at es s next)) (λ b. Unit {0}) P (every_told _ _ (λ b k q. tt))
     (λ b k q u. every_check b why at (sem.clauses w why at es s next) k P (λ on. clauses_any w why at es s next k P h))
 
-leaves_any : {N : Type 0} (w : sem.Setting N) (fr : Frame N) (at : ℕ) (out : Option tree.Output) (v : Option Datum) (m : Meter) (P : Exit → Type 0) → ((r : Option Datum) → P (Gave r)) → Every (run.leave w fr at out v m) P
+pub leaves_any : {N : Type 0} (w : sem.Setting N) (fr : Frame N) (at : ℕ) (out : Option tree.Output) (v : Option Datum) (m : Meter) (P : Exit → Type 0) → ((r : Option Datum) → P (Gave r)) → Every (run.leave w fr at out v m) P
 leaves_any w fr at None None m P h = clauses_any w kind.Ensures at fr.postconditions fr.entry (Done (Gave None)) m P (λ k. h None)
 leaves_any w fr at None (Some v) m P h = tt
 leaves_any w fr at (Some o) None m P h = tt

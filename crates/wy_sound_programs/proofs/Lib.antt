@@ -9,7 +9,6 @@ pub mod GrewLemmas
 pub mod HeadLemmas
 pub mod StaticLemmas
 pub mod StoreLemmas
-pub mod OtherLemmas
 pub mod WithLemmas
 pub mod ValueLemmas
 pub mod UpdateLemmas

@@ -58,7 +58,7 @@ pub up_next : (ps : List Path) (x j : ℕ) (set : List Bool) → Upto ps (suc x)
 up_next ps x j set h zero lt e = let q : x + 0 ≡ x = omega arith in subst (λ (z : ℕ). set_on_all ps z ≡ true) q e
 up_next ps x j set h (suc y) lt e = let q : x + suc y ≡ suc x + y = omega arith in h y (omega (arith, lt)) (subst (λ (z : ℕ). set_on_all ps z ≡ true) q e)
 
-join_up : (words : List (List ℕ)) (ps : List Path) (x j n : ℕ) → Upto ps x j (join_vars words ps x j n).set
+pub join_up : (words : List (List ℕ)) (ps : List Path) (x j n : ℕ) → Upto ps x j (join_vars words ps x j n).set
 join_up words ps x zero n = λ y lt e. absurd (omega (arith, lt))
 join_up words ps x (suc j) n =
     let name = val_name (word_at words x) n in

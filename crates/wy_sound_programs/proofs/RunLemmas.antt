@@ -62,23 +62,9 @@ use Rattle.wy_sound_programs.proofs.StaticLemmas.{MarksAre, EndStands, Static, s
 use Rattle.wy_sound_programs.proofs.UpdateLemmas.{Replaced, path_leads}
 use Rattle.wy_sound_programs.proofs.ValueLemmas.{value, quiet_value, truth_of, free_at, stored_in}
 use Rattle.wy_sound_programs.proofs.StoreLemmas.{in_both, bounded_at, fewer, put_holds, unset_holds, changed_holds, meets_holds, Renews, carry, head_holds, head_renews}
+use Rattle.wy_sound_programs.proofs.EntryLemmas.{clauses_any, leaves_any}
 
 -- ---- what has no store
-
-clauses_any : {X : Type 0} {N : Type 0} (w : sem.Setting N) (why : CondKind) (at : ℕ) (es : List (Expr N)) (s : Store) (next : Run X) (m : Meter) (P : X → Type 0) → ((k : Meter) → Every (next k) P) → Every (sem.clauses w why at es s next m) P
-clauses_any w why at [] s next m P h = h m
-clauses_any w why at (e ∷ es) s next m P h =
-    every_bind (sem.holds w e s m) (λ b. check b why at (sem.clauses w why at es s next)) (λ b. Unit {0}) P (every_told _ _ (λ b k q. tt))
-    (λ b k q u. every_check b why at (sem.clauses w why at es s next) k P (λ on. clauses_any w why at es s next k P h))
-
-leaves_any : {N : Type 0} (w : sem.Setting N) (fr : Frame N) (at : ℕ) (out : Option tree.Output) (v : Option Datum) (m : Meter) (P : Exit → Type 0) → ((r : Option Datum) → P (Gave r)) → Every (run.leave w fr at out v m) P
-leaves_any w fr at None None m P h = clauses_any w kind.Ensures at fr.postconditions fr.entry (Done (Gave None)) m P (λ k. h None)
-leaves_any w fr at None (Some v) m P h = tt
-leaves_any w fr at (Some o) None m P h = tt
-leaves_any w fr at (Some o) (Some v) m P h =
-    every_bind (fr.member o.ty v m) (λ b. check b kind.Member at (sem.clauses w kind.Ensures at fr.postconditions (set_if fr.entry o.variable (Some v)) (Done (Gave (Some v))))) (λ b. Unit {0}) P (every_told _ _ (λ b k e. tt))
-    (λ b k e q. every_check b kind.Member at (sem.clauses w kind.Ensures at fr.postconditions (set_if fr.entry o.variable (Some v)) (Done (Gave (Some v)))) k P
-    (λ on. clauses_any w kind.Ensures at fr.postconditions (set_if fr.entry o.variable (Some v)) (Done (Gave (Some v))) k P (λ l. h (Some v))))
 
 module _ (c : Setting) (g : Grounds c) where
   abbrev p : Program

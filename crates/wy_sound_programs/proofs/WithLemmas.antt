@@ -36,7 +36,7 @@ use Rattle.wy_subtype.proofs.ValueLemmas.{part_in-inside}
 use Rattle.wy_subtype.proofs.ValuedLemmas.{any_in-valued, valued_have}
 use Rattle.wy_subtype_parts.specs.Fields.{AllHave, atom_has, all_have}
 use Rattle.wy_subtype_parts.specs.updates.Updates.{part_at, replaced, with_record, records_of, all_of, second_part, IsWith}
-use Rattle.wy_sound_programs.proofs.OtherLemmas.{some_other}
+use Rattle.wy_subtype_parts.proofs.FieldLemmas.{some_other}
 
 -- ---- names
 

@@ -6,3 +6,4 @@ pub use Rattle.wy_vc_spec.proofs.wy_core_proofs as wy_core_proofs
 pub use Rattle.wy_vc_spec.proofs.wy_graph_proofs as wy_graph_proofs
 pub use Rattle.wy_vc_spec.proofs.wy_sem_proofs as wy_sem_proofs
 pub use Rattle.wy_term_subst.proofs as wy_term_subst_proofs
+pub use Rattle.wy_vc_spec.proofs as wy_vc_spec_proofs

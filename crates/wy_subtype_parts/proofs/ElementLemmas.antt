@@ -44,7 +44,7 @@ module _ (table : Table) (k : ℕ) (ranked : (rank : ℕ → ℕ) × IsRanked ta
   any_in-items d made (atom.Record fs) = sym (or_false (any_in (shape_of table k d) made))
   any_in-items d made atom.AnyRecord = sym (or_false (any_in (shape_of table k d) made))
 
-  any_in-elements : (d : Datum) (made cs : List (Conjunct ℕ)) → any_in (shape_of table k d) (elements table k made cs) ≡ (any_in (shape_of table k d) made || element_in (member table k d) cs)
+  pub any_in-elements : (d : Datum) (made cs : List (Conjunct ℕ)) → any_in (shape_of table k d) (elements table k made cs) ≡ (any_in (shape_of table k d) made || element_in (member table k d) cs)
   any_in-elements d made [] = sym (or_false (any_in (shape_of table k d) made))
   any_in-elements d made (c ∷ cs) =
       any_in-elements d (with_items table k made c.positive) cs
@@ -98,7 +98,7 @@ module _ (table : Table) (k : ℕ) (ranked : (rank : ℕ → ℕ) × IsRanked ta
   one_item d items (atom.Record fs) h e = absurd cc
   one_item d items atom.AnyRecord h e = absurd cc
 
-  of_items : (d : Datum) (items : Data) (cs : List (Conjunct ℕ)) → IsItem d items → any_in (shape_of table k (datum.Array items)) cs ≡ true → element_in (member table k d) cs ≡ true
+  pub of_items : (d : Datum) (items : Data) (cs : List (Conjunct ℕ)) → IsItem d items → any_in (shape_of table k (datum.Array items)) cs ≡ true → element_in (member table k d) cs ≡ true
   of_items d items [] h e = absurd cc
   of_items d items (c ∷ cs) h e = by (or_cases (conjunct_in (shape_of table k (datum.Array items)) c) (any_in (shape_of table k (datum.Array items)) cs) e) (λ f. of_items d items cs h f)
     where

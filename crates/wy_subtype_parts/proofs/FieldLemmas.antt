@@ -55,7 +55,7 @@ module _ (table : Table) (k : ℕ) (ranked : (rank : ℕ → ℕ) × IsRanked ta
           ∙ ap (λ y. any_in (shape_of table k d) made || y) (any_in-dnf_part table k (shape_of table k d) (has_laws table ranked.0 k ranked.1 d) x.1.terms)
       by false rest = rest
 
-  any_in-values : (d : Datum) (made : List (Conjunct ℕ)) (ws : List (List (List ℕ × Part ℕ))) → any_in (shape_of table k d) (values_at table k f made ws) ≡ (any_in (shape_of table k d) made || ways_have (member table k d) f ws)
+  pub any_in-values : (d : Datum) (made : List (Conjunct ℕ)) (ws : List (List (List ℕ × Part ℕ))) → any_in (shape_of table k d) (values_at table k f made ws) ≡ (any_in (shape_of table k d) made || ways_have (member table k d) f ws)
   any_in-values d made [] = sym (or_false (any_in (shape_of table k d) made))
   any_in-values d made (w ∷ ws) =
       any_in-values d (with_value table k f made w) ws

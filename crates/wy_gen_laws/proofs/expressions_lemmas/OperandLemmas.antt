@@ -88,7 +88,7 @@ pub got_cleared : (vs : Scope) (n d : ℕ) (s t : Variables) (store first regs :
 got_cleared vs n d s t store first regs v below fewer behind got = got_released vs n d s t store first regs v below behind (got_fewer vs n d s t store first regs v fewer got)
 
 -- an answer goes on to itself
-bind_done : {X : Type 0} (o : Outcome X) → (o >>= (λ x k. Done x k)) ≡ o
+pub bind_done : {X : Type 0} (o : Outcome X) → (o >>= (λ x k. Done x k)) ≡ o
 bind_done (Done x k) = refl
 bind_done (Fault kind at k) = refl
 bind_done (More k) = refl

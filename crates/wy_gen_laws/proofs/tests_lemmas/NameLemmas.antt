@@ -32,13 +32,7 @@ use Rattle.wy_gen_laws.specs.expressions.Rests.{Told}
 use Rattle.wy_gen_laws.proofs.expressions_lemmas.PartLemmas.{room_at}
 use Rattle.wy_gen_laws.proofs.tests_lemmas.StructureLemmas.{IsTested}
 use Rattle.wy_gen_laws.proofs.tests_lemmas.ClauseLemmas.{Inner}
-
--- an outcome, and then its answer
-bind_done : {X : Type 0} (o : Outcome X) → (o >>= (λ x k. Done x k)) ≡ o
-bind_done (Done x k) = refl
-bind_done (Fault kind at k) = refl
-bind_done (More k) = refl
-bind_done Spent = refl
+use Rattle.wy_gen_laws.proofs.expressions_lemmas.OperandLemmas.{bind_done}
 
 many_empties : (n : ℕ) → length (empties n) ≡ n
 many_empties zero = refl

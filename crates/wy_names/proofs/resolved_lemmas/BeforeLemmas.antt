@@ -18,26 +18,6 @@ use Rattle.wy_names.proofs.resolved_lemmas.NotedLemmas.{noted_none}
 use Rattle.wy_names.proofs.resolved_lemmas.BindLemmas as names
 use Rattle.wy_names.proofs.resolved_lemmas.ExpandLemmas.{before_expr}
 
-pub before_exprs : (k : Known) (s : Spot) (es : Exprs) (m : Measure) → (in_exprs k s es m).found ≡ None → m.found ≡ None
-before_exprs k s NoExprs m h = h
-before_exprs k s (MoreExprs e rest) m h = before_expr k s e m (before_exprs k s rest (in_expr k s e m) h)
-
-pub before_args : (k : Known) (s : Spot) (at : ℕ) (callee : Option Entry) (i : ℕ) (es : Exprs) (m : Measure) → (in_args k s at callee i es m).found ≡ None → m.found ≡ None
-before_args k s at callee i NoExprs m h = h
-before_args k s at callee i (MoreExprs e rest) m h =
-    before_expr k (arg_spot k.expansions callee s at i) e m (before_args k s at callee (i + 1) rest (in_expr k (arg_spot k.expansions callee s at i) e m) h)
-
-pub before_fields : (k : Known) (s : Spot) (fs : Fields) (m : Measure) → (in_fields k s fs m).found ≡ None → m.found ≡ None
-before_fields k s NoFields m h = h
-before_fields k s (MoreFields name e rest) m h = before_expr k s e m (before_fields k s rest (in_expr k s e m) h)
-
-pub before_ranges : (k : Known) (s : Spot) (rs : Ranges) (m : Measure) → (in_ranges k s rs m).found ≡ None → m.found ≡ None
-before_ranges k s NoRanges m h = h
-before_ranges k s (MoreRanges name a b rest) m h =
-    let first : Measure = in_expr k (inside s) a (counted m s) in
-    let second : Measure = in_expr k (inside s) b first in
-    before_expr k (inside s) a (counted m s) (before_expr k (inside s) b first (before_ranges k (inside s) rest second h))
-
 mutual
   pub before_type : (s : Spot) (t : Ty) (m : Measure) → (in_ty s t m).found ≡ None → m.found ≡ None
   before_type s (NullTy at) m h = h

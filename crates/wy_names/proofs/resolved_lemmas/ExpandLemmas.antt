@@ -115,20 +115,20 @@ mutual
   before_expr k s (RecordExpr at fs) m h = before_fields k (inside s) fs (counted m s) h
   before_expr k s (QuantExpr at all rs body) m h = before_ranges k (quantified s) rs m (before_expr k (behind_ranges (quantified s) rs) body (in_ranges k (quantified s) rs m) h)
 
-  before_exprs : (k : Known) (s : Spot) (es : Exprs) (m : Measure) → (in_exprs k s es m).found ≡ None → m.found ≡ None
+  pub before_exprs : (k : Known) (s : Spot) (es : Exprs) (m : Measure) → (in_exprs k s es m).found ≡ None → m.found ≡ None
   before_exprs k s NoExprs m h = h
   before_exprs k s (MoreExprs e rest) m h = before_expr k s e m (before_exprs k s rest (in_expr k s e m) h)
 
-  before_args : (k : Known) (s : Spot) (at : ℕ) (callee : Option Entry) (i : ℕ) (es : Exprs) (m : Measure) → (in_args k s at callee i es m).found ≡ None → m.found ≡ None
+  pub before_args : (k : Known) (s : Spot) (at : ℕ) (callee : Option Entry) (i : ℕ) (es : Exprs) (m : Measure) → (in_args k s at callee i es m).found ≡ None → m.found ≡ None
   before_args k s at callee i NoExprs m h = h
   before_args k s at callee i (MoreExprs e rest) m h =
       before_expr k (arg_spot k.expansions callee s at i) e m (before_args k s at callee (i + 1) rest (in_expr k (arg_spot k.expansions callee s at i) e m) h)
 
-  before_fields : (k : Known) (s : Spot) (fs : Fields) (m : Measure) → (in_fields k s fs m).found ≡ None → m.found ≡ None
+  pub before_fields : (k : Known) (s : Spot) (fs : Fields) (m : Measure) → (in_fields k s fs m).found ≡ None → m.found ≡ None
   before_fields k s NoFields m h = h
   before_fields k s (MoreFields name e rest) m h = before_expr k s e m (before_fields k s rest (in_expr k s e m) h)
 
-  before_ranges : (k : Known) (s : Spot) (rs : Ranges) (m : Measure) → (in_ranges k s rs m).found ≡ None → m.found ≡ None
+  pub before_ranges : (k : Known) (s : Spot) (rs : Ranges) (m : Measure) → (in_ranges k s rs m).found ≡ None → m.found ≡ None
   before_ranges k s NoRanges m h = h
   before_ranges k s (MoreRanges name a b rest) m h =
       let first : Measure = in_expr k (inside s) a (counted m s) in

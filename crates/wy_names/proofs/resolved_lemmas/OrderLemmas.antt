@@ -24,24 +24,24 @@ use Rattle.wy_names.proofs.resolved_lemmas.SizeLemmas.{Alike, same_summary}
 
 -- ---- lists
 
-record Has (done : List ℕ) (p : ℕ) : Type 0 where
-  place : ℕ
-  there : slice_get done place ≡ Some p
+pub record Has (done : List ℕ) (p : ℕ) : Type 0 where
+  pub place : ℕ
+  pub there : slice_get done place ≡ Some p
 
-has_first : (done : List ℕ) (x p : ℕ) → Has done p → Has (done ++ x ∷ []) p
+pub has_first : (done : List ℕ) (x p : ℕ) → Has done p → Has (done ++ x ∷ []) p
 has_first done x p h = record { place = h.place; there = at_first done x h.place p h.there }
 
-has_last : (done : List ℕ) (p : ℕ) → Has (done ++ p ∷ []) p
+pub has_last : (done : List ℕ) (p : ℕ) → Has (done ++ p ∷ []) p
 has_last done p = record { place = length done; there = at_seam done [] p }
 
-has_later : (y : ℕ) (ys : List ℕ) (p : ℕ) → Has ys p → Has (y ∷ ys) p
+pub has_later : (y : ℕ) (ys : List ℕ) (p : ℕ) → Has ys p → Has (y ∷ ys) p
 has_later y ys p h = record { place = suc h.place; there = h.there }
 
-in_rest : (y : ℕ) (ys : List ℕ) (p : ℕ) → p ≢ y → (j : ℕ) → slice_get (y ∷ ys) j ≡ Some p → Has ys p
+pub in_rest : (y : ℕ) (ys : List ℕ) (p : ℕ) → p ≢ y → (j : ℕ) → slice_get (y ∷ ys) j ≡ Some p → Has ys p
 in_rest y ys p other zero h = absurd (other (sym (some_number y p h)))
 in_rest y ys p other (suc j) h = record { place = j; there = h }
 
-decided : (xs : List ℕ) (p : ℕ) → (Has xs p) ⊎ (Has xs p → ⊥)
+pub decided : (xs : List ℕ) (p : ℕ) → (Has xs p) ⊎ (Has xs p → ⊥)
 decided [] p = inr (λ (h : Has [] p). let e : None ≡ Some p = h.there in absurd (cc))
 decided (y ∷ ys) p = by (eqb_tells p y) (decided ys p)
   where
@@ -91,11 +91,11 @@ same_lists (x ∷ xs) (y ∷ ys) h =
 
 -- ---- properties and their uses
 
-record PropertyAt (o : Option Decl) : Type 0 where
-  it : Property
-  there : o ≡ Some (PropertyDecl it)
+pub record PropertyAt (o : Option Decl) : Type 0 where
+  pub it : Property
+  pub there : o ≡ Some (PropertyDecl it)
 
-property_at : (o : Option Decl) → is_property o ≡ true → PropertyAt o
+pub property_at : (o : Option Decl) → is_property o ≡ true → PropertyAt o
 property_at None h = absurd (cc)
 property_at (Some (AliasDecl a)) h = absurd (cc)
 property_at (Some (FunctionDecl f)) h = absurd (cc)
@@ -137,7 +137,7 @@ good_none s ds = record {
 }
 
 -- what a property among the first ones uses stands before
-used : (s : Scope) (ds : List Decl) (order done : List ℕ) (p : ℕ) (rest : List ℕ) → IsOrder ds (edges_of s ds) order → order ≡ done ++ p ∷ rest
+pub used : (s : Scope) (ds : List Decl) (order done : List ℕ) (p : ℕ) (rest : List ℕ) → IsOrder ds (edges_of s ds) order → order ≡ done ++ p ∷ rest
     → (q : ℕ) → Has (done ++ p ∷ []) q → (i : ℕ) (e : Edge) → slice_get (edges_of s ds) i ≡ Some e → is_use ds e ≡ true → e.from ≡ q → Has done e.to
 used s ds order done p rest ordered is q has i e at way_is from =
     let here : slice_get order has.place ≡ Some q = ap (λ (l : List ℕ). slice_get l has.place) is ∙ at_longer done rest p has.place q has.there in

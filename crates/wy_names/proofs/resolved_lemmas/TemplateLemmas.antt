@@ -11,7 +11,7 @@ use Rattle.wy_ast.specs.SurfaceTree.{Decl, Property, AliasDecl, FunctionDecl, Me
 use Rattle.wy_lemmas.proofs.Choices.{both_true as two_true}
 use Rattle.wy_lemmas.proofs.Lists.{at_within, at_first, nothing_more, at_seam, seam, at_front, at_longer, at_more}
 use Rattle.wy_lemmas.proofs.Options.{some_number_is as some_number}
-use Rattle.wy_names.proofs.resolved_lemmas.OrderLemmas.{one_property}
+use Rattle.wy_names.proofs.resolved_lemmas.OrderLemmas.{one_property, Has, has_first, has_last, has_later, in_rest, decided, PropertyAt, property_at, used}
 use Rattle.wy_names_scope.specs.Scope.{Scope}
 use Rattle.wy_names_recursion.specs.declared.edges.Edge.{Edge}
 use Rattle.wy_names_recursion.specs.Uses.{Edges}
@@ -28,32 +28,6 @@ abbrev made : Scope → List Expansion → List Template → ℕ → Property �
 made s w ts p d = template ts s (used_of (slice_get w p)) d.params d.clauses
 
 -- ---- lists
-
-record Has (done : List ℕ) (p : ℕ) : Type 0 where
-  place : ℕ
-  there : slice_get done place ≡ Some p
-
-has_first : (done : List ℕ) (x p : ℕ) → Has done p → Has (done ++ x ∷ []) p
-has_first done x p h = record { place = h.place; there = at_first done x h.place p h.there }
-
-has_last : (done : List ℕ) (p : ℕ) → Has (done ++ p ∷ []) p
-has_last done p = record { place = length done; there = at_seam done [] p }
-
-has_later : (y : ℕ) (ys : List ℕ) (p : ℕ) → Has ys p → Has (y ∷ ys) p
-has_later y ys p h = record { place = suc h.place; there = h.there }
-
-in_rest : (y : ℕ) (ys : List ℕ) (p : ℕ) → p ≢ y → (j : ℕ) → slice_get (y ∷ ys) j ≡ Some p → Has ys p
-in_rest y ys p other zero h = absurd (other (sym (some_number y p h)))
-in_rest y ys p other (suc j) h = record { place = j; there = h }
-
-decided : (xs : List ℕ) (p : ℕ) → (Has xs p) ⊎ (Has xs p → ⊥)
-decided [] p = inr (λ (h : Has [] p). let e : None ≡ Some p = h.there in absurd (cc))
-decided (y ∷ ys) p = by (eqb_tells p y) (decided ys p)
-  where
-    by : ((eqb p y ≡ true) × (p ≡ y)) ⊎ ((eqb p y ≡ false) × (p ≢ y)) → (Has ys p) ⊎ (Has ys p → ⊥) → (Has (y ∷ ys) p) ⊎ (Has (y ∷ ys) p → ⊥)
-    by (inl e) rest = inl (record { place = 0; there = ap (λ (n : ℕ). Some n) (sym e.1) })
-    by (inr d) (inl h) = inl (has_later y ys p h)
-    by (inr d) (inr absent) = inr (λ (h : Has (y ∷ ys) p). absent (in_rest y ys p d.1 h.place h.there))
 
 -- ---- expansions put at an index
 
@@ -96,17 +70,6 @@ same_lists (x ∷ xs) (y ∷ ys) h =
 
 -- ---- properties and their uses
 
-record PropertyAt (o : Option Decl) : Type 0 where
-  it : Property
-  there : o ≡ Some (PropertyDecl it)
-
-property_at : (o : Option Decl) → is_property o ≡ true → PropertyAt o
-property_at None h = absurd (cc)
-property_at (Some (AliasDecl a)) h = absurd (cc)
-property_at (Some (FunctionDecl f)) h = absurd (cc)
-property_at (Some (MethodDecl m)) h = absurd (cc)
-property_at (Some (PropertyDecl d)) h = record { it = d; there = refl }
-
 -- what the declaration with this index uses has the same template
 abbrev Uses : List Template → List Template → ℕ → Edge → Type 0
 Uses x y p e = is_use_way e.way ≡ true → e.from ≡ p → slice_get x e.to ≡ slice_get y e.to
@@ -137,16 +100,6 @@ good_none s w ds = record {
   blank = λ (q : ℕ) (absent : Has [] q → ⊥). refl;
   full = λ (q : ℕ) (h : Has [] q) (d : Property) (at : slice_get ds q ≡ Some (PropertyDecl d)). let e : None ≡ Some q = h.there in absurd (cc);
 }
-
--- what a property among the first ones uses stands before
-used : (s : Scope) (ds : List Decl) (order done : List ℕ) (p : ℕ) (rest : List ℕ) → IsOrder ds (edges_of s ds) order → order ≡ done ++ p ∷ rest
-    → (q : ℕ) → Has (done ++ p ∷ []) q → (i : ℕ) (e : Edge) → slice_get (edges_of s ds) i ≡ Some e → is_use ds e ≡ true → e.from ≡ q → Has done e.to
-used s ds order done p rest ordered is q has i e at way_is from =
-    let here : slice_get order has.place ≡ Some q = ap (λ (l : List ℕ). slice_get l has.place) is ∙ at_longer done rest p has.place q has.there in
-    let before = ordered.behind has.place i e at way_is (here ∙ ap (λ (n : ℕ). Some n) (sym from)) in
-    let within : has.place ≤ length done = at_within done p has.place q has.there in
-    let front : before.0 < length done = omega (arith, within, before.1) in
-    record { place = before.0; there = sym (at_front done (p ∷ rest) before.0 front) ∙ ap (λ (l : List ℕ). slice_get l before.0) (sym is) ∙ before.2 }
 
 -- a property more changes nothing that a use of the first ones names
 kept : (s : Scope) (w : List Expansion) (ds : List Decl) (done : List ℕ) (x : List Template) (p : ℕ) (d : Property) → Good s w ds done x → slice_get ds p ≡ Some (PropertyDecl d) → p < length x

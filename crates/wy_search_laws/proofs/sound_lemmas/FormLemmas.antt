@@ -84,11 +84,11 @@ pub same_quotient : (d : ℕ) (c : ℤ) → quotient d c ≡ quotient_down c d
 same_quotient d (pos n) = refl
 same_quotient d (negsuc n) = refl
 
-record IsTimes (d : ℕ) (c : ℤ) : Type 0 where
-  rest : ℤ
-  is : c ≡ pos d *ℤ rest
+pub record IsTimes (d : ℕ) (c : ℤ) : Type 0 where
+  pub rest : ℤ
+  pub is : c ≡ pos d *ℤ rest
 
-times_of : (d : ℕ) (c : ℤ) → unsigned_abs c % d ≡ 0 → IsTimes d c
+pub times_of : (d : ℕ) (c : ℤ) → unsigned_abs c % d ≡ 0 → IsTimes d c
 times_of d (pos n) e =
     let whole = div-add-mod n d in
     let product : pos d *ℤ pos (n / d) ≡ pos (d * (n / d)) = refl in

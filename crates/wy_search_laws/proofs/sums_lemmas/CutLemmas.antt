@@ -13,7 +13,7 @@ use Rattle.wy_search_bounds.specs.wy_facts.Schema.{only_if, zero_term}
 use Rattle.wy_lemmas.proofs.Choices.{both_parts as both_of, both_true as still}
 use Rattle.wy_lemmas.proofs.Numbers.{zero_and, one_times, none_first, alone_from as alone}
 use Rattle.wy_search_bounds.proofs.wy_lin_proofs.SharedLemmas.{some_form}
-use Rattle.wy_search_laws.proofs.sound_lemmas.FormLemmas.{same_quotient}
+use Rattle.wy_search_laws.proofs.sound_lemmas.FormLemmas.{same_quotient, times_of}
 use Rattle.wy_search_bounds.specs.wy_term.Term as term
 use Rattle.wy_search_bounds.specs.wy_term.Term.{Term, Of, no_parts, part, two, Number, add, mul, at_most}
 use Rattle.wy_search_bounds.specs.wy_term.Data.{quotient_down}
@@ -72,23 +72,6 @@ scaled_variable c t e =
     ∙ ap (λ (o : Option ℤ). o >>= λ (k : ℤ). some_form (record { parts = (c, t) ∷ []; constant = k })) (scaled_none c)
 
 -- ---- division of coefficients
-
-record IsTimes (d : ℕ) (c : ℤ) : Type 0 where
-  rest : ℤ
-  is : c ≡ pos d *ℤ rest
-
-times_of : (d : ℕ) (c : ℤ) → unsigned_abs c % d ≡ 0 → IsTimes d c
-times_of d (pos n) e =
-    let whole = div-add-mod n d in
-    let product : pos d *ℤ pos (n / d) ≡ pos (d * (n / d)) = refl in
-    record { rest = pos (n / d); is = omega (arith, ints, whole, e, product) }
-times_of d (negsuc n) e =
-    let whole = div-add-mod (suc n) d in
-    let product : pos d *ℤ pos (suc n / d) ≡ pos (d * (suc n / d)) = refl in
-    let turned = times_opposite (pos d) (pos (suc n / d)) in
-    let opposite : negsuc n ≡ neg_ℤ (pos (suc n)) = omega (arith, ints) in
-    let whole_again : pos (suc n) ≡ pos (d * (suc n / d)) = let left : suc n ≡ d * (suc n / d) = omega (arith, whole, e) in ap (λ (k : ℕ). pos k) left in
-    record { rest = neg_ℤ (pos (suc n / d)); is = opposite ∙ (ap neg_ℤ whole_again ∙ sym turned) }
 
 -- a number that is divided without a rest is the divisor's multiple of the quotient
 divided_whole : (d : ℕ) (c : ℤ) → 0 < d → unsigned_abs c % d ≡ 0 → pos d *ℤ quotient_down c d ≡ c

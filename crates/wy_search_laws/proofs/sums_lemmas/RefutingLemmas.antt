@@ -2,7 +2,7 @@
 use Rattle.std.proofs.Common.{◌≡◌, ◌<◌, ◌*◌, ℕ, zero, suc, List, [], ◌∷◌, ◌++◌, length, Bool, true, false, cond, ℤ, pos, Option, Some, None, refl, sym, ap, subst, ◌∙◌, append_assoc, append-nil, length-append, arith}
 use Rattle.std.specs.Prelude.{nat_lt, ◌==◌, ◌&&◌, unsigned_abs, int_lt, int_le, ◌+ℤ◌}
 use Rattle.std.proofs.lemmas.Bool.{eqb-true}
-use Rattle.wy_search_bounds.proofs.wy_lin_eliminate_proofs.TurnLemmas.{AllHave, AreAt, ArePlain, are_at, in_step_some, once_plain, sides_have}
+use Rattle.wy_search_bounds.proofs.wy_lin_eliminate_proofs.TurnLemmas.{AllHave, AreAt, ArePlain, are_at, in_step_some, once_plain, sides_have, Grows, no_growth, grows_on, variable_grown, have_grown, at_grown}
 use Rattle.wy_lemmas.proofs.Choices.{large_one}
 use Rattle.wy_search_bounds.specs.wy_lin.Linear.{Linear}
 use Rattle.wy_search_bounds.specs.wy_lin.Combination.{form_at, combined}
@@ -40,29 +40,6 @@ common_not_bare ps e = by (is_bare ps) refl
     by : (b : Bool) → is_bare ps ≡ b → b ≡ false
     by true f = absurd (let up : true ≡ false = sym (ap (λ (d : ℕ). d == 0) (bare_common ps f)) ∙ e in cc)
     by false f = refl
-
-record Grows (s t : State) : Type 0 where
-  more : List (Linear ℕ)
-  grown : t.all ≡ s.all ++ more
-
-no_growth : (s t : State) → t.all ≡ s.all → Grows s t
-no_growth s t e = record { more = []; grown = e ∙ sym (append-nil s.all) }
-
-grows_on : (s t u : State) → Grows s t → Grows t u → Grows s u
-grows_on s t u a b = record { more = a.more ++ b.more; grown = b.grown ∙ ap (λ (l : List (Linear ℕ)). l ++ b.more) a.grown ∙ append_assoc s.all a.more b.more }
-
-variable_grown : (s t : State) (v i : ℕ) → Grows s t → HasVariable s.all v i → HasVariable t.all v i
-variable_grown s t v i a h = subst (λ (l : List (Linear ℕ)). HasVariable l v i) (sym a.grown) (variable_before s.all a.more v i h)
-
-have_grown : (s t : State) (v : ℕ) (is : List ℕ) → Grows s t → AllHave s.all v is → AllHave t.all v is
-have_grown s t v [] a h = tt
-have_grown s t v (i ∷ is) a h = (variable_grown s t v i a h.0, have_grown s t v is a h.1)
-
-at_grown : (all more : List (Linear ℕ)) (i : ℕ) (fs : List (Linear ℕ)) → AreAt all i fs → AreAt (all ++ more) i fs
-at_grown all more i [] h = tt
-at_grown all more i (f ∷ fs) h =
-    let longer = length-append all more in
-    (form_before all more i h.1 ∙ h.0, omega (arith, longer, h.1), at_grown all more (suc i) fs h.2)
 
 refuted_is : (a b : Steps) → Refuted a ≡ Refuted b → a ≡ b
 refuted_is a b e = cc

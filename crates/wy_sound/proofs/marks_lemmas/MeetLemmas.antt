@@ -1,7 +1,7 @@
 -- Points of a walk to which paths lead, on which what isn't marked has no value; and where such points come together.
 use Rattle.std.proofs.Common.{◌≡◌, ℕ, zero, suc, ◌+◌, ◌<◌, ◌≤◌, List, [], ◌∷◌, ◌++◌, map, length, Bool, true, false, not, ◌&&◌, Option, Some, None, refl, sym, ap, ◌∙◌, subst, arith}
 use Rattle.wy_lemmas.proofs.Choices.{and-left as left_true, false_true as never}
-use Rattle.wy_sound_programs.proofs.MarkLemmas.{Upto, max_first, picked, set_equated, up_next}
+use Rattle.wy_sound_programs.proofs.MarkLemmas.{Upto, max_first, picked, set_equated, up_next, join_up}
 use Rattle.wy_term.specs.Term.{Term}
 use Rattle.wy_sound_programs.specs.wy_vc_spec.Making.{val_name}
 use Rattle.wy_sound_programs.specs.wy_vc_spec.Values.{word_at}
@@ -49,16 +49,6 @@ reach_both C end set [] qs h g = g
 reach_both C end set (p ∷ ps) qs h g = (h.0, reach_both C end set ps qs h.1 g)
 
 -- ---- marks of a join
-
-join_up : (words : List (List ℕ)) (ps : List Path) (x j n : ℕ) → Upto ps x j (join_vars words ps x j n).set
-join_up words ps x zero n = λ y lt e. absurd (omega (arith, lt))
-join_up words ps x (suc j) n =
-    let name = val_name (word_at words x) n in
-    let new = join_vars words (equated name x ps) (suc x) j (suc n) in
-    let old = join_vars words ps (suc x) j n in
-    picked (λ (i : Joined). Upto ps x (suc j) i.set) (differ ps x) (with_variable (Some name) (set_on_all ps x) new) (with_variable (first_term ps x) (set_on_all ps x) old)
-    (up_next ps x j new.set (λ y lt e. join_up words (equated name x ps) (suc x) j (suc n) y lt (set_equated name x ps (suc x + y) ∙ e)))
-    (up_next ps x j old.set (join_up words ps (suc x) j n))
 
 -- there are as many marks as terms
 abbrev Even : Joined → Type 0

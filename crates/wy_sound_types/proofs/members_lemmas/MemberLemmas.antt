@@ -66,7 +66,7 @@ unlisted : (s : Setting Node) (ns : List ℕ) (b : ℕ) → ((n : ℕ) → is_am
 unlisted s [] b h = tt
 unlisted s (n ∷ ns) b h = ((λ is. h n (or_left (eqb n n) (is_among ns n) (eqb_self n)) (sym is)), unlisted s ns b (λ m t. h m (or_right (eqb n m) (is_among ns m) t)))
 
-all_unfolded : (s : Setting Node) (names : Names) (members : ℕ → Datum → Bool) → MeetFormulas s members → names.is_member ≡ members → (ns : List ℕ) → ((n : ℕ) → is_among ns n ≡ true → n < length s.types) → AreUnfolded names (map (unfolded s) ns)
+pub all_unfolded : (s : Setting Node) (names : Names) (members : ℕ → Datum → Bool) → MeetFormulas s members → names.is_member ≡ members → (ns : List ℕ) → ((n : ℕ) → is_among ns n ≡ true → n < length s.types) → AreUnfolded names (map (unfolded s) ns)
 all_unfolded s names members meet right [] below = tt
 all_unfolded s names members meet right (n ∷ ns) below = (
   λ d. ap (λ (m : ℕ → Datum → Bool). m n d) right ∙ meet.told n (below n (or_left (eqb n n) (is_among ns n) (eqb_self n))) names right d,

@@ -3,7 +3,7 @@ use Rattle.std.proofs.Common.{◌≡◌, ◌∙◌, ℕ, List, [], ◌∷◌, Bo
 use Rattle.std.specs.Str.{bytes_eq}
 use Rattle.std.proofs.lemmas.Bool.{or_cases}
 use Rattle.wy_lemmas.proofs.Choices.{or_none as or_false, both_parts as both, or_left, or_right, or_assoc, false_true}
-use Rattle.wy_subtype_parts.proofs.FieldLemmas.{part_has, same_datum, ways_have}
+use Rattle.wy_subtype_parts.proofs.FieldLemmas.{part_has, same_datum, ways_have, any_in-values}
 use Rattle.wy_value.specs.Datum.{Datum, Fields, no_fields, field}
 use Rattle.wy_value.specs.Datum as datum
 use Rattle.wy_value.specs.Values.{names_of}
@@ -31,24 +31,6 @@ use Rattle.wy_types_laws.specs.parts.Parts.{ValuesAreIn}
 use Rattle.wy_types_laws.proofs.parts_lemmas.NormLemmas.{asked, ranked, they_say, reads, norms_same}
 
 module _ (table : Table) (k : ℕ) (ranks : (rank : ℕ → ℕ) × IsRanked table rank k) (f : List ℕ) where
-  any_in-value : (d : Datum) (made : List (Conjunct ℕ)) (w : List (List ℕ × Part ℕ)) → any_in (shape_of table k d) (with_value table k f made w) ≡ (any_in (shape_of table k d) made || part_has (member table k d) f w)
-  any_in-value d made [] = sym (or_false (any_in (shape_of table k d) made))
-  any_in-value d made (x ∷ w) = by (bytes_eq x.0 f) (any_in-value d made w)
-    where
-      by : (b : Bool) → any_in (shape_of table k d) (with_value table k f made w) ≡ (any_in (shape_of table k d) made || part_has (member table k d) f w)
-          → any_in (shape_of table k d) (cond b (united_conjuncts same_term made (dnf_part table k x.1.terms)) (with_value table k f made w))
-          ≡ (any_in (shape_of table k d) made || cond b (part_in (member table k d) x.1.terms) (part_has (member table k d) f w))
-      by true rest =
-          any_in-united_conjuncts same_term same_term_is (shape_of table k d) made (dnf_part table k x.1.terms)
-          ∙ ap (λ y. any_in (shape_of table k d) made || y) (any_in-dnf_part table k (shape_of table k d) (has_laws table ranks.0 k ranks.1 d) x.1.terms)
-      by false rest = rest
-
-  any_in-values : (d : Datum) (made : List (Conjunct ℕ)) (ws : List (List (List ℕ × Part ℕ))) → any_in (shape_of table k d) (values_at table k f made ws) ≡ (any_in (shape_of table k d) made || ways_have (member table k d) f ws)
-  any_in-values d made [] = sym (or_false (any_in (shape_of table k d) made))
-  any_in-values d made (w ∷ ws) =
-      any_in-values d (with_value table k f made w) ws
-      ∙ (ap (λ x. x || ways_have (member table k d) f ws) (any_in-value d made w) ∙ or_assoc (any_in (shape_of table k d) made) (part_has (member table k d) f w) (ways_have (member table k d) f ws))
-
   ways_hold : (row : Fields) (a : Atom ℕ) (ns : List (Atom ℕ)) → atom_has f a ≡ true → (atom_in (RecordShape (names_of row) (field_readers table k row)) a && none_in (RecordShape (names_of row) (field_readers table k row)) ns) ≡ true
       → (let c : Conjunct ℕ = record { positive = a; negatives = ns } in some_fields (names_of row) (field_readers table k row) (ways_of table k c) ≡ true)
   ways_hold row (atom.Record fs) ns has e =
@@ -119,7 +101,7 @@ module _ (table : Table) (k : ℕ) (ranks : (rank : ℕ → ℕ) × IsRanked tab
   -- a value at the field of a record of the conjuncts is in the union of the field's parts
   pub value_of_union : (d : Datum) (row : Fields) (cs : List (Conjunct ℕ)) (ways : List (List (List ℕ × Part ℕ))) → AreInhabited table k (all_ways table k cs) ways → all_have f cs ≡ true → value_at f row ≡ Some d
       → any_in (shape_of table k (datum.Record row)) cs ≡ true → any_in (shape_of table k d) (values_at table k f [] ways) ≡ true
-  value_of_union d row cs ways h has v e = any_in-values d [] ways ∙ of_ways d row (all_ways table k cs) ways h v (some_hold row cs has e)
+  value_of_union d row cs ways h has v e = any_in-values table k ranks f d [] ways ∙ of_ways d row (all_ways table k cs) ways h v (some_hold row cs has e)
 
 union_has : (names : List Declared) (recur : RecurThroughParts names) (f : List ℕ) (t union : Ty) → IsUnion names f t union → (d : Datum) → IsValueIn names f t d → Up names d union ≡ true
 union_has names recur f t union is d o =

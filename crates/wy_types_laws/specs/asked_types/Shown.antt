@@ -6,6 +6,8 @@ use Rattle.wy_value.specs.Datum as datum
 use Rattle.wy_value.specs.Values.{IsValue}
 use Rattle.wy_core.specs.Types.{Ty}
 use Rattle.wy_types.specs.Names.{Declared, Up}
+use Rattle.wy_subtype_parts.specs.Items.{IsItem}
+use Rattle.wy_subtype_parts.specs.Fields.{value_at, has_value_at}
 
 -- some value of the language is in the one type and not in the other
 abbrev pub IsOutside : List Declared → Ty → Ty → Type 0
@@ -15,24 +17,9 @@ IsOutside names a b = (v : Datum) × IsValue v × (Up names v a ≡ true) × (Up
 abbrev pub IsInhabited : List Declared → Ty → Type 0
 IsInhabited names t = (v : Datum) × IsValue v × (Up names v t ≡ true)
 
--- the datum is one of these items
-abbrev pub IsItem : Datum → Data → Type 0
-IsItem d no_items = ⊥
-IsItem d (item x rest) = (x ≡ d) ⊎ IsItem d rest
-
 -- some array of the language in the type has this item
 abbrev pub HasItem : List Declared → Ty → Datum → Type 0
 HasItem names t v = (items : Data) × IsItem v items × IsValue (datum.Array items) × (Up names (datum.Array items) t ≡ true)
-
--- the value at the field, if it is there
-abbrev pub value_at : List ℕ → Fields → Option Datum
-value_at f no_fields = None
-value_at f (field name d rest) = cond (bytes_eq name f) (Some d) (value_at f rest)
-
--- is a record with the field
-abbrev pub has_value_at : List ℕ → Datum → Bool
-has_value_at f (datum.Record fields) = is_some (value_at f fields)
-has_value_at f _ = false
 
 -- some value of the language in the type is no record with the field
 abbrev pub IsLacked : List Declared → List ℕ → Ty → Type 0

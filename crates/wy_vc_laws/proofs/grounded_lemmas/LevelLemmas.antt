@@ -15,21 +15,13 @@ use Rattle.wy_sound_terms.specs.wy_vc_spec.Named.{some_test_in, alias_mentions, 
 use Rattle.wy_sound_terms.specs.wy_vc_spec.Numbered.{Node, numbered_list, numbered_alias, exprs_in_decl, numbered_decls, numbered_core}
 use Rattle.wy_sound_terms.proofs.wy_graph_proofs.reach_lemmas.BoundedLemmas.{Grows, bounded}
 use Rattle.wy_vc_laws.specs.grounded.Uses.{NamesAll, NamesBare, ClausesTestAll}
-use Rattle.wy_vc_laws.proofs.grounded_lemmas.UseLemmas.{all_named, all_clauses_tested, bare_named, named_mentions, some_named, clauses_mention, some_clause}
+use Rattle.wy_vc_laws.proofs.grounded_lemmas.UseLemmas.{all_named, all_clauses_tested, bare_named, clauses_mention, some_clause}
 use Rattle.wy_vc_laws.proofs.grounded_lemmas.NamedLemmas.{IsNamed, AreLevelled}
+use Rattle.wy_sound_terms.proofs.wy_vc_spec_proofs.answered_lemmas.Levels.{fewer}
+use Rattle.wy_sound_terms.proofs.wy_sem_proofs.SharedLemmas.{alias_past}
+use Rattle.wy_sound_terms.proofs.wy_vc_spec_proofs.answered_lemmas.Uses.{named_mentions, some_named}
 
 -- ---- how many numbers below one are in a set
-
-fewer : (p q : ℕ → Bool) → ((n : ℕ) → p n ≡ true → q n ≡ true) → (k m : ℕ) → m < k → p m ≡ false → q m ≡ true → how_many p k < how_many q k
-fewer p q up zero m less f t = absurd (omega (arith, less))
-fewer p q up (suc k) m less f t = by (λ l. fewer p q up k m l f t) (cases_lt m k)
-  where
-    here : m ≡ k → one_if (p k) + how_many p k < one_if (q k) + how_many q k
-    here is =
-        let h = as_many p q up k in
-        let a : one_if (p k) ≡ 0 = ap one_if (subst (λ (x : ℕ). p x ≡ false) is f) in
-        let b : one_if (q k) ≡ 1 = ap one_if (subst (λ (x : ℕ). q x ≡ true) is t) in
-        omega (arith, h, a, b)
 
     by : (m < k → how_many p k < how_many q k) → (m < k) ⊎ (k ≤ m) → one_if (p k) + how_many p k < one_if (q k) + how_many q k
     by rest (inl l) = let h = rest l in let g = one_within (p k) (q k) (up k) in omega (arith, h, g)
@@ -60,11 +52,6 @@ alias_bound o [] h a x at = absurd cc
 alias_bound o (AliasDecl y ∷ ds) h zero x at = subst (λ (z : Alias ℕ). BoundAlias o z) (some_alias y x at) h.0
 alias_bound o (AliasDecl y ∷ ds) h (suc a) x at = alias_bound o ds h.1 a x at
 alias_bound o (RoutineDecl r ∷ ds) h a x at = alias_bound o ds h.1 a x at
-
-alias_past : {M : Type 0} (types : List (Alias M)) (n : ℕ) → length types ≤ n → alias_at types n ≡ no_alias
-alias_past [] n past = refl
-alias_past (a ∷ types) zero past = absurd (omega (arith, past))
-alias_past (a ∷ types) (suc n) past = alias_past types n (omega (arith, past))
 
 -- ---- what a type leads to
 

@@ -8,6 +8,7 @@ use Rattle.wy_sound_terms.specs.wy_vc_spec.Owed.{Owed}
 use Rattle.wy_sound_terms.specs.wy_vc_spec.Values.{Setting, defined, named_in, test_name, test_formula}
 use Rattle.wy_sound_terms.specs.wy_vc_spec.Limits.{tests_in, tests_in_all, formulas_of, mentioned, is_among, rising_among, types_of}
 use Rattle.wy_sound_terms.proofs.wy_graph_proofs.reach_lemmas.BoundedLemmas.{Grows, bounded}
+use Rattle.wy_sound_terms.proofs.wy_sem_proofs.SharedLemmas.{alias_past}
 
 -- ---- numbers among numbers
 
@@ -117,11 +118,6 @@ module _ {N : Type 0} (s : Setting N) where
   mentioned_more : (j : ℕ) (ns : List ℕ) (n : ℕ) → is_among ns n ≡ true → is_among (mentioned s j ns) n ≡ true
   mentioned_more zero ns n h = h
   mentioned_more (suc j) ns n h = mentioned_more j (further ns) n (among_left ns (tests_in_all (formulas_of s ns)) n h)
-
-  alias_past : {M : Type 0} (types : List (Alias M)) (n : ℕ) → length types ≤ n → alias_at types n ≡ no_alias
-  alias_past [] n past = refl
-  alias_past (a ∷ types) zero past = absurd (omega (arith, past))
-  alias_past (a ∷ types) (suc n) past = alias_past types n (omega (arith, past))
 
   -- what is no type tests nothing
   tested_past : (n : ℕ) → length s.types ≤ n → tested n ≡ []

@@ -9,6 +9,7 @@ use Rattle.wy_sound_terms.specs.wy_vc_spec.Named.{some_test, some_test_all, some
 use Rattle.wy_sound_terms.specs.wy_vc_spec.Sizes.{exprs_in}
 use Rattle.wy_sound_terms.specs.wy_vc_spec.Numbered.{numbered, numbered_all, numbered_fields, numbered_list}
 use Rattle.wy_vc_laws.specs.grounded.Uses.{NamesAll, AllNamesAll, NamesBare, TestsAll, AllTestAll, FieldsTestAll, ClausesTestAll}
+use Rattle.wy_sound_terms.proofs.wy_vc_spec_proofs.answered_lemmas.Uses.{Found, named_mentions, some_named, either_name, none_here}
 
 -- ---- what all names have, each name has
 
@@ -83,61 +84,6 @@ bare_named P Q (NormalTy union) f g = tt
 -- ---- names with a property, as a test
 
 module _ (p : ℕ → Bool) where
-  -- some name has it
-  abbrev pub Found : (ℕ → Type 0) → Type 0
-  Found In = (c : ℕ) × In c × (p c ≡ true)
-
-  mutual
-    pub named_mentions : (t : Ty) (c : ℕ) → NamesIn true t c → p c ≡ true → mentions p t ≡ true
-    named_mentions NullTy c h q = absurd h
-    named_mentions BoolTy c h q = absurd h
-    named_mentions IntTy c h q = absurd h
-    named_mentions AnyTy c h q = absurd h
-    named_mentions VoidTy c h q = absurd h
-    named_mentions (RecordTy fields) c h q = fields_mention fields c h q
-    named_mentions (ArrayTy item) c h q = named_mentions item c h q
-    named_mentions (UnionTy s t) c (inl h) q = or_left (mentions p s) (mentions p t) (named_mentions s c h q)
-    named_mentions (UnionTy s t) c (inr h) q = or_right (mentions p s) (mentions p t) (named_mentions t c h q)
-    named_mentions (InterTy s t) c (inl h) q = or_left (mentions p s) (mentions p t) (named_mentions s c h q)
-    named_mentions (InterTy s t) c (inr h) q = or_right (mentions p s) (mentions p t) (named_mentions t c h q)
-    named_mentions (NotTy t) c h q = named_mentions t c h q
-    named_mentions (NamedTy n) c h q = subst (λ (x : ℕ). p x ≡ true) (sym h) q
-    named_mentions (NormalTy union) c h q = absurd h
-
-    fields_mention : (fields : FieldTys) (c : ℕ) → NamesInFields fields c → p c ≡ true → mentions_fields p fields ≡ true
-    fields_mention NoFieldTys c h q = absurd h
-    fields_mention (MoreFieldTys name t fields) c (inl h) q = or_left (mentions p t) (mentions_fields p fields) (named_mentions t c h q)
-    fields_mention (MoreFieldTys name t fields) c (inr h) q = or_right (mentions p t) (mentions_fields p fields) (fields_mention fields c h q)
-
-  either_name : {A B : ℕ → Type 0} (a b : Bool) → (a || b) ≡ true → (a ≡ true → Found A) → (b ≡ true → Found B) → Found (λ c. A c ⊎ B c)
-  either_name {A} {B} a b h f g = by (or_cases a b h)
-    where
-      by : (a ≡ true) ⊎ (b ≡ true) → Found (λ c. A c ⊎ B c)
-      by (inl e) = let r = f e in (r.0, inl r.1, r.2)
-      by (inr e) = let r = g e in (r.0, inr r.1, r.2)
-
-  none_here : {A : Type 0} → false ≡ true → A
-  none_here e = absurd cc
-
-  mutual
-    pub some_named : (t : Ty) → mentions p t ≡ true → Found (NamesIn true t)
-    some_named NullTy h = none_here h
-    some_named BoolTy h = none_here h
-    some_named IntTy h = none_here h
-    some_named AnyTy h = none_here h
-    some_named VoidTy h = none_here h
-    some_named (RecordTy fields) h = some_field fields h
-    some_named (ArrayTy item) h = some_named item h
-    some_named (UnionTy s t) h = either_name (mentions p s) (mentions p t) h (some_named s) (some_named t)
-    some_named (InterTy s t) h = either_name (mentions p s) (mentions p t) h (some_named s) (some_named t)
-    some_named (NotTy t) h = some_named t h
-    some_named (NamedTy n) h = (n, refl, h)
-    some_named (NormalTy union) h = none_here h
-
-    some_field : (fields : FieldTys) → mentions_fields p fields ≡ true → Found (NamesInFields fields)
-    some_field NoFieldTys h = none_here h
-    some_field (MoreFieldTys name t fields) h = either_name (mentions p t) (mentions_fields p fields) h (some_named t) (some_field fields)
-
   mutual
     tested_mentions : (e : Expr ℕ) (k c : ℕ) → Mentions e c → p c ≡ true → some_test (mentions p) (numbered e k) ≡ true
     tested_mentions (NullExpr at) k c h q = absurd h
@@ -151,7 +97,7 @@ module _ (p : ℕ → Bool) where
     tested_mentions (BinaryExpr at op a b) k c (inl h) q = or_left (some_test (mentions p) (numbered a k)) (some_test (mentions p) (numbered b (k + exprs_in a))) (tested_mentions a k c h q)
     tested_mentions (BinaryExpr at op a b) k c (inr h) q = or_right (some_test (mentions p) (numbered a k)) (some_test (mentions p) (numbered b (k + exprs_in a))) (tested_mentions b (k + exprs_in a) c h q)
     tested_mentions (IsExpr at a t) k c (inl h) q = or_left (some_test (mentions p) (numbered a k)) (mentions p t) (tested_mentions a k c h q)
-    tested_mentions (IsExpr at a t) k c (inr h) q = or_right (some_test (mentions p) (numbered a k)) (mentions p t) (named_mentions t c h q)
+    tested_mentions (IsExpr at a t) k c (inr h) q = or_right (some_test (mentions p) (numbered a k)) (mentions p t) (named_mentions p t c h q)
     tested_mentions (IndexExpr at a b) k c (inl h) q = or_left (some_test (mentions p) (numbered a k)) (some_test (mentions p) (numbered b (k + exprs_in a))) (tested_mentions a k c h q)
     tested_mentions (IndexExpr at a b) k c (inr h) q = or_right (some_test (mentions p) (numbered a k)) (some_test (mentions p) (numbered b (k + exprs_in a))) (tested_mentions b (k + exprs_in a) c h q)
     tested_mentions (FieldExpr at a name) k c h q = tested_mentions a k c h q
@@ -184,34 +130,34 @@ module _ (p : ℕ → Bool) where
   clauses_mention (e ∷ es) k c (inr h) q = or_right (some_test (mentions p) (numbered e k)) (some_test_in (mentions p) (numbered_list es (k + exprs_in e))) (clauses_mention es (k + exprs_in e) c h q)
 
   mutual
-    some_tested : (e : Expr ℕ) (k : ℕ) → some_test (mentions p) (numbered e k) ≡ true → Found (Mentions e)
-    some_tested (NullExpr at) k h = none_here h
-    some_tested (BoolExpr at truth) k h = none_here h
-    some_tested (IntExpr at number) k h = none_here h
-    some_tested (VarExpr at v) k h = none_here h
+    some_tested : (e : Expr ℕ) (k : ℕ) → some_test (mentions p) (numbered e k) ≡ true → Found p (Mentions e)
+    some_tested (NullExpr at) k h = none_here p h
+    some_tested (BoolExpr at truth) k h = none_here p h
+    some_tested (IntExpr at number) k h = none_here p h
+    some_tested (VarExpr at v) k h = none_here p h
     some_tested (CallExpr at routine args) k h = some_in_all args k h
     some_tested (NegExpr at a) k h = some_tested a k h
     some_tested (NotExpr at a) k h = some_tested a k h
     some_tested (LenExpr at a) k h = some_tested a k h
-    some_tested (BinaryExpr at op a b) k h = either_name (some_test (mentions p) (numbered a k)) (some_test (mentions p) (numbered b (k + exprs_in a))) h (some_tested a k) (some_tested b (k + exprs_in a))
-    some_tested (IsExpr at a t) k h = either_name (some_test (mentions p) (numbered a k)) (mentions p t) h (some_tested a k) (some_named t)
-    some_tested (IndexExpr at a b) k h = either_name (some_test (mentions p) (numbered a k)) (some_test (mentions p) (numbered b (k + exprs_in a))) h (some_tested a k) (some_tested b (k + exprs_in a))
+    some_tested (BinaryExpr at op a b) k h = either_name p (some_test (mentions p) (numbered a k)) (some_test (mentions p) (numbered b (k + exprs_in a))) h (some_tested a k) (some_tested b (k + exprs_in a))
+    some_tested (IsExpr at a t) k h = either_name p (some_test (mentions p) (numbered a k)) (mentions p t) h (some_tested a k) (some_named p t)
+    some_tested (IndexExpr at a b) k h = either_name p (some_test (mentions p) (numbered a k)) (some_test (mentions p) (numbered b (k + exprs_in a))) h (some_tested a k) (some_tested b (k + exprs_in a))
     some_tested (FieldExpr at a name) k h = some_tested a k h
     some_tested (ListExpr at items) k h = some_in_all items k h
-    some_tested (RepeatExpr at a b) k h = either_name (some_test (mentions p) (numbered a k)) (some_test (mentions p) (numbered b (k + exprs_in a))) h (some_tested a k) (some_tested b (k + exprs_in a))
+    some_tested (RepeatExpr at a b) k h = either_name p (some_test (mentions p) (numbered a k)) (some_test (mentions p) (numbered b (k + exprs_in a))) h (some_tested a k) (some_tested b (k + exprs_in a))
     some_tested (RecordExpr at fields) k h = some_value fields k h
     some_tested (QuantExpr at all x a b body) k h =
-        either_name {A = Mentions a} {B = λ c. Mentions b c ⊎ Mentions body c} (some_test (mentions p) (numbered a k)) (some_test (mentions p) (numbered b (k + exprs_in a)) || some_test (mentions p) (numbered body (k + exprs_in a + exprs_in b))) h (some_tested a k)
-        (λ g. either_name {A = Mentions b} {B = Mentions body} (some_test (mentions p) (numbered b (k + exprs_in a))) (some_test (mentions p) (numbered body (k + exprs_in a + exprs_in b))) g (some_tested b (k + exprs_in a)) (some_tested body (k + exprs_in a + exprs_in b)))
+        either_name p {A = Mentions a} {B = λ c. Mentions b c ⊎ Mentions body c} (some_test (mentions p) (numbered a k)) (some_test (mentions p) (numbered b (k + exprs_in a)) || some_test (mentions p) (numbered body (k + exprs_in a + exprs_in b))) h (some_tested a k)
+        (λ g. either_name p {A = Mentions b} {B = Mentions body} (some_test (mentions p) (numbered b (k + exprs_in a))) (some_test (mentions p) (numbered body (k + exprs_in a + exprs_in b))) g (some_tested b (k + exprs_in a)) (some_tested body (k + exprs_in a + exprs_in b)))
 
-    some_in_all : (es : Exprs ℕ) (k : ℕ) → some_test_all (mentions p) (numbered_all es k) ≡ true → Found (MentionsIn es)
-    some_in_all NoExprs k h = none_here h
-    some_in_all (MoreExprs e es) k h = either_name (some_test (mentions p) (numbered e k)) (some_test_all (mentions p) (numbered_all es (k + exprs_in e))) h (some_tested e k) (some_in_all es (k + exprs_in e))
+    some_in_all : (es : Exprs ℕ) (k : ℕ) → some_test_all (mentions p) (numbered_all es k) ≡ true → Found p (MentionsIn es)
+    some_in_all NoExprs k h = none_here p h
+    some_in_all (MoreExprs e es) k h = either_name p (some_test (mentions p) (numbered e k)) (some_test_all (mentions p) (numbered_all es (k + exprs_in e))) h (some_tested e k) (some_in_all es (k + exprs_in e))
 
-    some_value : (fs : Fields ℕ) (k : ℕ) → some_test_fields (mentions p) (numbered_fields fs k) ≡ true → Found (MentionsInFields fs)
-    some_value NoFields k h = none_here h
-    some_value (MoreFields name e fs) k h = either_name (some_test (mentions p) (numbered e k)) (some_test_fields (mentions p) (numbered_fields fs (k + exprs_in e))) h (some_tested e k) (some_value fs (k + exprs_in e))
+    some_value : (fs : Fields ℕ) (k : ℕ) → some_test_fields (mentions p) (numbered_fields fs k) ≡ true → Found p (MentionsInFields fs)
+    some_value NoFields k h = none_here p h
+    some_value (MoreFields name e fs) k h = either_name p (some_test (mentions p) (numbered e k)) (some_test_fields (mentions p) (numbered_fields fs (k + exprs_in e))) h (some_tested e k) (some_value fs (k + exprs_in e))
 
-  pub some_clause : (es : List (Expr ℕ)) (k : ℕ) → some_test_in (mentions p) (numbered_list es k) ≡ true → Found (ClausesMention es)
-  some_clause [] k h = none_here h
-  some_clause (e ∷ es) k h = either_name (some_test (mentions p) (numbered e k)) (some_test_in (mentions p) (numbered_list es (k + exprs_in e))) h (some_tested e k) (some_clause es (k + exprs_in e))
+  pub some_clause : (es : List (Expr ℕ)) (k : ℕ) → some_test_in (mentions p) (numbered_list es k) ≡ true → Found p (ClausesMention es)
+  some_clause [] k h = none_here p h
+  some_clause (e ∷ es) k h = either_name p (some_test (mentions p) (numbered e k)) (some_test_in (mentions p) (numbered_list es (k + exprs_in e))) h (some_tested e k) (some_clause es (k + exprs_in e))

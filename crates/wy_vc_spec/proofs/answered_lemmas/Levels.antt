@@ -13,7 +13,7 @@ use Rattle.wy_vc_spec.proofs.answered_lemmas.Uses.{named_mentions, some_named, c
 
 -- ---- how many numbers below one are in a set
 
-fewer : (p q : ℕ → Bool) → ((n : ℕ) → p n ≡ true → q n ≡ true) → (k m : ℕ) → m < k → p m ≡ false → q m ≡ true → how_many p k < how_many q k
+pub fewer : (p q : ℕ → Bool) → ((n : ℕ) → p n ≡ true → q n ≡ true) → (k m : ℕ) → m < k → p m ≡ false → q m ≡ true → how_many p k < how_many q k
 fewer p q up zero m less f t = absurd (omega (arith, less))
 fewer p q up (suc k) m less f t = by (λ l. fewer p q up k m l f t) (cases_lt m k)
   where

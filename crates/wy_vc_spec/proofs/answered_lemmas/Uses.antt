@@ -38,14 +38,14 @@ module _ (p : ℕ → Bool) where
     fields_mention (MoreFieldTys name t fields) c (inl h) q = or_left (mentions p t) (mentions_fields p fields) (named_mentions t c h q)
     fields_mention (MoreFieldTys name t fields) c (inr h) q = or_right (mentions p t) (mentions_fields p fields) (fields_mention fields c h q)
 
-  either_name : {A B : ℕ → Type 0} (a b : Bool) → (a || b) ≡ true → (a ≡ true → Found A) → (b ≡ true → Found B) → Found (λ c. A c ⊎ B c)
+  pub either_name : {A B : ℕ → Type 0} (a b : Bool) → (a || b) ≡ true → (a ≡ true → Found A) → (b ≡ true → Found B) → Found (λ c. A c ⊎ B c)
   either_name {A} {B} a b h f g = by (or_cases a b h)
     where
       by : (a ≡ true) ⊎ (b ≡ true) → Found (λ c. A c ⊎ B c)
       by (inl e) = let r = f e in (r.0, inl r.1, r.2)
       by (inr e) = let r = g e in (r.0, inr r.1, r.2)
 
-  none_here : {A : Type 0} → false ≡ true → A
+  pub none_here : {A : Type 0} → false ≡ true → A
   none_here e = absurd cc
 
   mutual
