@@ -64,8 +64,6 @@ use Rattle.wy_sound_programs.proofs.ValueLemmas.{value, quiet_value, truth_of, f
 use Rattle.wy_sound_programs.proofs.StoreLemmas.{in_both, bounded_at, fewer, put_holds, unset_holds, changed_holds, meets_holds, Renews, carry, head_holds, head_renews}
 use Rattle.wy_sound_programs.proofs.EntryLemmas.{clauses_any, leaves_any}
 
--- ---- what has no store
-
 module _ (c : Setting) (g : Grounds c) where
   abbrev p : Program
   p = c.program

@@ -27,8 +27,6 @@ use Rattle.wy_names.proofs.resolved_lemmas.LoweredLemmas.{Alike, same_template}
 abbrev made : Scope → List Expansion → List Template → ℕ → Property → Template
 made s w ts p d = template ts s (used_of (slice_get w p)) d.params d.clauses
 
--- ---- lists
-
 -- ---- expansions put at an index
 
 get_set : (x : List Template) (i : ℕ) (v : Template) → i < length x → slice_get (slice_set x i v) i ≡ Some v

@@ -21,12 +21,6 @@ use Rattle.wy_sound_terms.proofs.wy_vc_spec_proofs.answered_lemmas.Levels.{fewer
 use Rattle.wy_sound_terms.proofs.wy_sem_proofs.SharedLemmas.{alias_past}
 use Rattle.wy_sound_terms.proofs.wy_vc_spec_proofs.answered_lemmas.Uses.{named_mentions, some_named}
 
--- ---- how many numbers below one are in a set
-
-    by : (m < k → how_many p k < how_many q k) → (m < k) ⊎ (k ≤ m) → one_if (p k) + how_many p k < one_if (q k) + how_many q k
-    by rest (inl l) = let h = rest l in let g = one_within (p k) (q k) (up k) in omega (arith, h, g)
-    by rest (inr past) = here (omega (arith, less, past))
-
 -- ---- numbered types
 
 -- the type with this number, with and without numbers of expressions
