@@ -303,12 +303,7 @@ fn behind(
 }
 
 // One turn.
-fn turn(
-    terms: &mut Terms,
-    cond: &Cond,
-    budget: u64,
-    walk: Walk,
-) -> Result<Turned, NoMemory>
+fn turn(terms: &mut Terms, cond: &Cond, budget: u64, walk: Walk) -> Result<Turned, NoMemory>
     requires types { AreTypesBelow (length terms.old) cond.now }
     requires leaves { walk.leaves ≤ budget }
     requires walk { IsWalk terms.old walk }
@@ -331,11 +326,7 @@ fn turn(
 
 /// A certificate by the steps of the search, whose tree is gone through up to so many leaves. There is one exactly where the search
 /// finds at this budget, and it is valid, if the condition's formulas are sorted and folded. Older numbers name what they named.
-pub fn written_by(
-    terms: &mut Terms,
-    cond: &Cond,
-    budget: u64,
-) -> Result<Option<Cert>, NoMemory>
+pub fn written_by(terms: &mut Terms, cond: &Cond, budget: u64) -> Result<Option<Cert>, NoMemory>
     requires hyps { All (λ h. h < length terms.old) cond.now.hyps.items }
     requires goal { cond.now.goal < length terms.old }
     requires types { AreTypesBelow (length terms.old) cond.now }
