@@ -6,7 +6,7 @@ use Rattle.wy_term.specs.Term.{Term}
 use Rattle.wy_term.specs.Condition.{Entry}
 use Rattle.wy_term.specs.Unfolding.{AreClosed}
 use Rattle.wy_search_laws.specs.wy_lin.Linear.{◌>>=◌, Linear}
-use Rattle.wy_search_laws.specs.wy_check_spec.judge.Node.{Node, added, denied_one, with_formulas}
+use Rattle.wy_search_laws.specs.wy_check_spec.judge.Node.{Node, is_atom, added, denied_one, with_formulas}
 use Rattle.wy_cert.specs.Steps.{Written, split, shut, chain, clash, sum_of, cut, inst, wit, fact, prod}
 use Rattle.wy_search_laws.specs.wy_check_spec.valid.Literals.{is_shut}
 use Rattle.wy_search_laws.specs.wy_check_spec.valid.Sums.{summed, is_refuting, cut_of}

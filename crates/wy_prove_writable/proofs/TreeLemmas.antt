@@ -2,7 +2,7 @@
 use Rattle.std.proofs.Common.{◌≡◌, ℕ, ◌+◌, List, [], ◌∷◌, ◌++◌, Bool, true, false, Option, Some, None, length, length-append, refl, subst, arith}
 use Rattle.wy_term.specs.Condition.{Entry}
 use Rattle.wy_lin.specs.Linear.{◌>>=◌}
-use Rattle.wy_check_laws.specs.wy_check_spec.judge.Node.{Node, added, denied_one, first_node}
+use Rattle.wy_check_laws.specs.wy_check_spec.judge.Node.{Node, is_atom, added, denied_one, first_node}
 use Rattle.wy_cert.specs.Steps.{Written, split, shut, chain, clash, sum_of, cut, inst, wit, fact, prod, children}
 use Rattle.wy_check_laws.specs.wy_check_spec.valid.Literals.{only_if, is_shut}
 use Rattle.wy_check_laws.specs.wy_check_spec.valid.Sums.{summed, is_refuting, cut_of}
