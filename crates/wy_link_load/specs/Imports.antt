@@ -26,8 +26,8 @@ file_name file = file.name
 
 -- What becomes of an import of the name, whose file is the target. In this order: a file that is being loaded is a cycle; a name that the same file imported before stands twice; a file that is finished is loaded; and where those fill the room, which is that of 64 files without those that are being loaded, one more is too many.
 abbrev pub import_of : ℕ → List (List ℕ) → List SourceFile → List (List ℕ × ℕ) → List ℕ → List ℕ → Import
-import_of room open finished earlier name target =
-    if is_among open target then Refused Cycle
+import_of room stack finished earlier name target =
+    if is_among stack target then Refused Cycle
     else (if is_among (map name_of earlier) name then Refused Twice
     else (if is_among (map file_name finished) target then Loaded
     else (if nat_lt (length finished) room then New else Refused TooMany)))

@@ -35,23 +35,23 @@ follows load file at target finished (Refused fault) = ends_with (refused 1 (fau
 
 -- one import of a file, which imported those before, while files with these names are being loaded; there is room for so many others
 abbrev pub loads_import : Load → ℕ → List (List ℕ) → SourceFile → List (List ℕ × ℕ) → List ℕ × ℕ → List SourceFile → Sense → Came (List SourceFile) → Type 0
-loads_import load room open file earlier import finished =
-    follows load file import.1 (import_file file.name import.0) finished (import_of room open finished earlier import.0 (import_file file.name import.0))
+loads_import load room stack file earlier import finished =
+    follows load file import.1 (import_file file.name import.0) finished (import_of room stack finished earlier import.0 (import_file file.name import.0))
 
 -- these imports of it, one behind the other
 abbrev pub loads_imports : Load → ℕ → List (List ℕ) → SourceFile → List (List ℕ × ℕ) → List (List ℕ × ℕ) → List SourceFile → Sense → Came (List SourceFile) → Type 0
-loads_imports load room open file earlier [] finished = comes_to finished
-loads_imports load room open file earlier (import ∷ imports) finished =
-    and_then (loads_import load room open file earlier import finished) (loads_imports load room open file (earlier ++ import ∷ []) imports)
+loads_imports load room stack file earlier [] finished = comes_to finished
+loads_imports load room stack file earlier (import ∷ imports) finished =
+    and_then (loads_import load room stack file earlier import finished) (loads_imports load room stack file (earlier ++ import ∷ []) imports)
 
 -- the file, behind all that it imports
 abbrev pub loads_around : Load → ℕ → List (List ℕ) → List SourceFile → SourceFile → Sense → Came (List SourceFile) → Type 0
-loads_around load room open finished file = and_then (loads_imports load room open file [] file.program.imports finished) (λ files. comes_to (files ++ file ∷ []))
+loads_around load room stack finished file = and_then (loads_imports load room stack file [] file.program.imports finished) (λ files. comes_to (files ++ file ∷ []))
 
 -- The file of the name, behind all that it imports, while files with these names are being loaded. It takes one of the room for others, and there is such: an import for which there is none is refused.
-pub loads_file : ℕ → Setting → List (List ℕ) → Load
-loads_file zero s open name finished m r = ⊥
-loads_file (suc room) s open name finished m r = and_then (reads s name) (loads_around (loads_file room s (open ++ name ∷ [])) room (open ++ name ∷ []) finished) m r
+unfoldable pub loads_file : ℕ → Setting → List (List ℕ) → Load
+loads_file zero s stack name finished m r = ⊥
+loads_file (suc room) s stack name finished m r = and_then (reads s name) (loads_around (loads_file room s (stack ++ name ∷ [])) room (stack ++ name ∷ []) finished) m r
 
 -- what the source imports, of 63 files at most
 abbrev pub loads_behind : Setting → SourceFile → Sense → Came Sources → Type 0

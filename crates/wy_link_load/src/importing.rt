@@ -1,5 +1,6 @@
 //! An import: the file that it names, and what becomes of it before that file is loaded.
-ghost use Rattle.std.specs.Prelude.{◌≡◌, ◌<◌, List, length, map, true, IfOk};
+ghost use Rattle.std.specs.Prelude.{◌≡◌, ◌<◌, map, IfOk};
+ghost use Rattle.std.specs.String.{string_bytes};
 ghost use Rattle.wy_link_load.specs.Imports as spec;
 ghost use Rattle.wy_link_load.specs.declared.importing.Import.TheVariants.{New};
 ghost use Rattle.wy_port.specs.FilesInMemory.{is_among};
@@ -40,15 +41,22 @@ pub fn word(fault: ImportFault) -> &'static str
     }
 }
 
+// The text of the file of `name` beside `file`.
+fn text_beside(alloc: Global, file: &str, name: &str) -> Result<String, AllocError>
+    ensures value { IfOk result (λ s. string_bytes s ≡ spec.import_file file.now name.now) }
+{
+    match file.rsplit_once('/') {
+        Some((folder, _)) => format!(in alloc; "{folder}/{name}.wy"),
+        None => format!(in alloc; "{name}.wy"),
+    }
+}
+
 /// The file that an import of `name` names in `file`: `name.wy` in the same folder, which is what stands in `file` up to its last
 /// slash.
 pub fn import_file(alloc: Global, file: &str, name: &str) -> Result<Name, AllocError>
     ensures value { IfOk result (λ target. target ≡ spec.import_file file.now name.now) }
 {
-    let text = match file.rsplit_once('/') {
-        Some((folder, _)) => format!(in alloc; "{folder}/{name}.wy")?,
-        None => format!(in alloc; "{name}.wy")?,
-    };
+    let text = text_beside(alloc, file, name)?;
     Ok(Name::new(text))
 }
 
@@ -89,19 +97,19 @@ fn is_loaded(files: &[SourceFile], name: &Name) -> bool
 }
 
 /// What becomes of an import of `name`, which names the file `target`, by a file that imported those of `earlier` before. The files
-/// of `open` are being loaded, those of `finished` are loaded, and there is room for so many besides those that are being loaded.
+/// of `stack` are being loaded, those of `finished` are loaded, and there is room for so many besides those that are being loaded.
 pub fn import_of(
     room: usize,
-    open: &[Name],
+    stack: &[Name],
     finished: &[SourceFile],
     earlier: &[(Name, u32)],
     name: &Name,
     target: &Name,
 ) -> Import
-    ensures value { result ≡ spec.import_of room open.now finished.now earlier.now name.now target.now }
+    ensures value { result ≡ spec.import_of room stack.now finished.now earlier.now name.now target.now }
     ensures room { result ≡ New → 0 < room }
 {
-    if is_listed(open, target) {
+    if is_listed(stack, target) {
         return Import::Refused(ImportFault::Cycle);
     }
     if is_imported(earlier, name) {

@@ -32,22 +32,22 @@ pub struct Loading {
     /// The files that are loaded with all that they import, in the order in which they were finished.
     pub finished: Items<SourceFile>,
     /// The names of the files that are being loaded, each imported by the one before it.
-    pub open: Items<Name>,
+    pub stack: Items<Name>,
 }
 
 // With one more file that is being loaded.
 fn opened(alloc: Global, loading: Loading, name: &Name) -> Result<Loading, Answer>
     ensures finished { IfOk result (λ inside. inside.finished ≡ loading.finished) }
-    ensures open { IfOk result (λ inside. inside.open ≡ loading.open ++ name.now ∷ []) }
+    ensures stack { IfOk result (λ inside. inside.stack ≡ loading.stack ++ name.now ∷ []) }
     ensures memory { IfErr result (λ answer. answer ≡ answers.no_memory) }
 {
-    let Loading { finished, mut open } = loading;
+    let Loading { finished, mut stack } = loading;
     let copy = match name.copy(alloc) {
         Ok(copy) => copy,
         Err(_) => return Err(no_memory(alloc)),
     };
-    match open.push(copy) {
-        Ok(()) => Ok(Loading { finished, open }),
+    match stack.push(copy) {
+        Ok(()) => Ok(Loading { finished, stack }),
         Err(_) => Err(no_memory(alloc)),
     }
 }
@@ -55,16 +55,16 @@ fn opened(alloc: Global, loading: Loading, name: &Name) -> Result<Loading, Answe
 // With the file that was opened last finished.
 fn closed(alloc: Global, inside: Loading, file: SourceFile) -> Result<Loading, Answer>
     ensures finished { IfOk result (λ loading. loading.finished ≡ inside.finished ++ file ∷ []) }
-    ensures open { (outer : List (List ℕ)) → (name : List ℕ) → inside.open ≡ outer ++ name ∷ [] → IfOk result (λ loading. loading.open ≡ outer) }
+    ensures stack { (outer : List (List ℕ)) → (name : List ℕ) → inside.stack ≡ outer ++ name ∷ [] → IfOk result (λ loading. loading.stack ≡ outer) }
     ensures memory { IfErr result (λ answer. answer ≡ answers.no_memory) }
 {
     let Loading {
         mut finished,
-        mut open,
+        mut stack,
     } = inside;
-    let _name = open.pop();
+    let _name = stack.pop();
     match finished.push(file) {
-        Ok(()) => Ok(Loading { finished, open }),
+        Ok(()) => Ok(Loading { finished, stack }),
         Err(_) => Err(no_memory(alloc)),
     }
 }
@@ -79,8 +79,8 @@ fn load_file<F: Files>(
     files: &mut F,
 ) -> Result<Loading, Answer>
     requires { 0 < room }
-    ensures gives { During (F.told files.old) (F.load_faults files.old) (F.load_faults files.new) (F.misses files.old) (F.misses files.new) (λ s. Gives s (spec.loads_file room s loading.open name loading.finished) (came finished_in result)) }
-    ensures open { IfOk result (λ after. after.open ≡ loading.open) }
+    ensures gives { During (F.told files.old) (F.load_faults files.old) (F.load_faults files.new) (F.misses files.old) (F.misses files.new) (λ s. Gives s (spec.loads_file room s loading.stack name loading.finished) (came finished_in result)) }
+    ensures stack { IfOk result (λ after. after.stack ≡ loading.stack) }
     ensures kept { (other : List ℕ) → F.told files.new other ≡ F.told files.old other }
     ensures load_count { F.load_faults files.old ≤ F.load_faults files.new }
     ensures miss_count { F.misses files.old ≤ F.misses files.new }
@@ -110,8 +110,8 @@ fn load_imports<F: Files>(
     loading: Loading,
     files: &mut F,
 ) -> Result<Loading, Answer>
-    ensures gives { During (F.told files.old) (F.load_faults files.old) (F.load_faults files.new) (F.misses files.old) (F.misses files.new) (λ s. Gives s (spec.loads_imports (spec.loads_file room s loading.open) room loading.open file.now (take next file.now.program.imports) (drop next file.now.program.imports) loading.finished) (came finished_in result)) }
-    ensures open { IfOk result (λ after. after.open ≡ loading.open) }
+    ensures gives { During (F.told files.old) (F.load_faults files.old) (F.load_faults files.new) (F.misses files.old) (F.misses files.new) (λ s. Gives s (spec.loads_imports (spec.loads_file room s loading.stack) room loading.stack file.now (take next file.now.program.imports) (drop next file.now.program.imports) loading.finished) (came finished_in result)) }
+    ensures stack { IfOk result (λ after. after.stack ≡ loading.stack) }
     ensures kept { (other : List ℕ) → F.told files.new other ≡ F.told files.old other }
     ensures load_count { F.load_faults files.old ≤ F.load_faults files.new }
     ensures miss_count { F.misses files.old ≤ F.misses files.new }
@@ -140,8 +140,8 @@ fn load_import<F: Files>(
     loading: Loading,
     files: &mut F,
 ) -> Result<Loading, Answer>
-    ensures gives { During (F.told files.old) (F.load_faults files.old) (F.load_faults files.new) (F.misses files.old) (F.misses files.new) (λ s. Gives s (spec.loads_import (spec.loads_file room s loading.open) room loading.open file.now earlier.now import.now loading.finished) (came finished_in result)) }
-    ensures open { IfOk result (λ after. after.open ≡ loading.open) }
+    ensures gives { During (F.told files.old) (F.load_faults files.old) (F.load_faults files.new) (F.misses files.old) (F.misses files.new) (λ s. Gives s (spec.loads_import (spec.loads_file room s loading.stack) room loading.stack file.now earlier.now import.now loading.finished) (came finished_in result)) }
+    ensures stack { IfOk result (λ after. after.stack ≡ loading.stack) }
     ensures kept { (other : List ℕ) → F.told files.new other ≡ F.told files.old other }
     ensures load_count { F.load_faults files.old ≤ F.load_faults files.new }
     ensures miss_count { F.misses files.old ≤ F.misses files.new }
@@ -153,7 +153,7 @@ fn load_import<F: Files>(
     };
     let becomes = import_of(
         room,
-        loading.open.as_slice(),
+        loading.stack.as_slice(),
         loading.finished.as_slice(),
         earlier,
         &import.0,
@@ -168,13 +168,13 @@ fn load_import<F: Files>(
 
 // The name as a name of a file that is being loaded, and no file that is finished.
 fn started(alloc: Global, name: &Name) -> Result<Loading, AllocError>
-    ensures value { IfOk result (λ loading. (loading.finished ≡ []) × (loading.open ≡ name.now ∷ [])) }
+    ensures value { IfOk result (λ loading. (loading.finished ≡ []) × (loading.stack ≡ name.now ∷ [])) }
 {
-    let mut open = Items::new(alloc);
-    open.push(name.copy(alloc)?)?;
+    let mut stack = Items::new(alloc);
+    stack.push(name.copy(alloc)?)?;
     Ok(Loading {
         finished: Items::new(alloc),
-        open,
+        stack,
     })
 }
 
