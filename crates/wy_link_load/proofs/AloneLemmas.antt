@@ -1,5 +1,5 @@
 -- What is taken is a source that was loaded and imports nothing.
-use Rattle.std.proofs.Common.{◌≡◌, ℕ, List, [], ◌∷◌, Ok, Err, refl, sym, subst}
+use Rattle.std.proofs.Common.{◌≡◌, ◌∙◌, ℕ, List, [], ◌∷◌, Ok, Err, refl, sym, ap, subst}
 use Rattle.wy_parse_front.specs.Front.{Spells}
 use Rattle.wy_top_answers.specs.Answers.{refused}
 use Rattle.wy_top_answers.specs.Loading.{Loads, source_limit}

@@ -61,7 +61,7 @@ unfolding loads_file
 file_covered P c s zero stack name finished a h = absurd h
 file_covered P c s (suc room) stack name finished a h =
     of_steps P (reads s name stated) _ (λ b g. read_covered P c s name b g)
-    (λ file b g. of_steps P _ _ (λ d f. imports_covered P c (loads_file room s (stack ++ name ∷ [])) (file_covered P c s room (stack ++ name ∷ [])) room (stack ++ name ∷ []) file [] file.program.imports finished d f)
+    (λ file b g. of_steps P _ _ (λ d f. imports_covered P c (loads_file room s (stack ++ file.name ∷ [])) (file_covered P c s room (stack ++ file.name ∷ [])) room (stack ++ file.name ∷ []) file [] file.program.imports finished d f)
     (λ files d f. absurd (no_value _ d f)) b g) a h
 
 -- ---- the whole

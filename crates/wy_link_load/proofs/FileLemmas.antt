@@ -1,5 +1,5 @@
 -- A file that was read is the one that its name and its bytes make, or the refusal of its text is the one that is due.
-use Rattle.std.proofs.Common.{◌≡◌, ◌≢◌, ◌∙◌, ℕ, List, Result, Ok, Err, false, IsTrue, refl, sym, ap}
+use Rattle.std.proofs.Common.{◌≡◌, ◌≢◌, ◌∙◌, ℕ, List, Result, Ok, Err, false, IsTrue, refl, sym, ap, subst}
 use Rattle.wy_ast.specs.declared.declarations.Program.{Program}
 use Rattle.wy_lemmas.proofs.Choices.{off as not_true}
 use Rattle.wy_parse_front.specs.Faults as faults
@@ -12,7 +12,7 @@ use Rattle.wy_top_answers.specs.Steps.{Gives, Setting}
 use Rattle.wy_top_answers.specs.declared.answer.Answer.{Answer}
 use Rattle.wy_top_answers.specs.report.Lines.{source_fault}
 use Rattle.wy_top_answers.proofs.CallLemmas.{called_fault, called_value}
-use Rattle.wy_link_load.specs.Files.{IsFile, is_faulted, spelled, text_faults, text_line}
+use Rattle.wy_link_load.specs.Files.{IsFile, fault_line, is_faulted, spelled, text_faults, text_line}
 use Rattle.wy_link_load.specs.declared.file.SourceFile.{SourceFile}
 
 -- the line at what was found to be the place of an offset
@@ -74,13 +74,26 @@ one_file name bytes p reads other h =
     sym (ap (λ (n : List ℕ). file_of n other.bytes other.program) h.named
     ∙ (ap (λ (b : List ℕ). file_of name b other.program) h.holds ∙ ap (λ (q : Program). file_of name bytes q) (same_program p other.program (reads other.program h.spelled))))
 
-pub spelled_value : (s : Setting) (name bytes : List ℕ) (p : Program) → front.Spells bytes p → Reads bytes (Ok p) → Faults bytes (Ok p) → Gives s (spelled name bytes) (Ok (file_of name bytes p))
-spelled_value s name bytes p is reads exact =
+value_of : (s : Setting) (name bytes : List ℕ) (p : Program) → front.Spells bytes p → Reads bytes (Ok p) → Faults bytes (Ok p) → Gives s (spelled name bytes) (Ok (file_of name bytes p))
+value_of s name bytes p is reads exact =
     called_value s (λ m file. IsFile name bytes file) (text_faults name bytes) (is_faulted bytes) (file_of name bytes p) (record { named = refl; holds = refl; spelled = is })
     (λ other h. one_file name bytes p reads other h) (λ f due. no_program f p (exact f due))
 
-pub spelled_fault : (s : Setting) (name bytes : List ℕ) (f : SourceFault) (a : Answer) → front.IsRefused bytes f → Reads bytes (Err f) → Faults bytes (Err f)
+-- the bytes are those that were read
+pub spelled_value : (s : Setting) (name bytes read : List ℕ) (p : Program) → read ≡ bytes → front.Spells read p → Reads read (Ok p) → Faults read (Ok p) → Gives s (spelled name bytes) (Ok (file_of name bytes p))
+spelled_value s name bytes read p same is reads exact = subst (λ (b : List ℕ). Gives s (spelled name b) (Ok (file_of name b p))) same (value_of s name read p is reads exact)
+
+fault_of : (s : Setting) (name bytes : List ℕ) (f : SourceFault) (a : Answer) → front.IsRefused bytes f → Reads bytes (Err f) → Faults bytes (Err f)
     → AnswersFault (faults.is_no_memory f) 1 (text_line name bytes f) a → Gives s (spelled name bytes) (Err a)
-spelled_fault s name bytes f a is reads exact answers =
+fault_of s name bytes f a is reads exact answers =
     called_fault s (λ m file. IsFile name bytes file) (text_faults name bytes) (is_faulted bytes) f a (λ un_so. is)
     (λ file h. memory f (λ n. never file.program f (reads file.program h.spelled n))) (λ g due un_so. sym (same_fault f g (exact g due (apart f un_so)))) answers
+
+pub spelled_fault : (s : Setting) (name bytes called read : List ℕ) (f : SourceFault) (a : Answer) → called ≡ name → read ≡ bytes → front.IsRefused read f → Reads read (Err f) → Faults read (Err f)
+    → AnswersFault (faults.is_no_memory f) 1 (text_line called read f) a → Gives s (spelled name bytes) (Err a)
+spelled_fault s name bytes called read f a named same is reads exact answers =
+    subst (λ (n : List ℕ). Gives s (spelled n bytes) (Err a)) named (subst (λ (b : List ℕ). Gives s (spelled called b) (Err a)) same (fault_of s called read f a is reads exact answers))
+
+-- the line of a fault, by its place and its word
+pub line_of : (name bytes : List ℕ) (f : SourceFault) (at : ℕ) (called : List ℕ) → at ≡ faults.offset f → called ≡ faults.word f → fault_line name bytes at called ≡ text_line name bytes f
+line_of name bytes f at called same is = ap (λ (n : ℕ). fault_line name bytes n called) same ∙ ap (λ (w : List ℕ). fault_line name bytes (faults.offset f) w) is

@@ -1,5 +1,6 @@
 mod FileLemmas
 mod WalkLemmas
+mod TakenLemmas
 mod ImportLemmas
 pub mod AloneLemmas
 pub mod AnswerLemmas

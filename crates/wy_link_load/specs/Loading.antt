@@ -44,14 +44,15 @@ loads_imports load room stack file earlier [] finished = comes_to finished
 loads_imports load room stack file earlier (import ∷ imports) finished =
     and_then (loads_import load room stack file earlier import finished) (loads_imports load room stack file (earlier ++ import ∷ []) imports)
 
--- the file, behind all that it imports
-abbrev pub loads_around : Load → ℕ → List (List ℕ) → List SourceFile → SourceFile → Sense → Came (List SourceFile) → Type 0
-loads_around load room stack finished file = and_then (loads_imports load room stack file [] file.program.imports finished) (λ files. comes_to (files ++ file ∷ []))
+-- the file, behind all that it imports, while files with these names are being loaded
+abbrev pub loads_around : (List (List ℕ) → Load) → ℕ → List (List ℕ) → List SourceFile → SourceFile → Sense → Came (List SourceFile) → Type 0
+loads_around load room stack finished file =
+    and_then (loads_imports (load (stack ++ file.name ∷ [])) room (stack ++ file.name ∷ []) file [] file.program.imports finished) (λ files. comes_to (files ++ file ∷ []))
 
--- The file of the name, behind all that it imports, while files with these names are being loaded. It takes one of the room for others, and there is such: an import for which there is none is refused.
+-- The file of the name, behind all that it imports. It takes one of the room for others, and there is such: an import for which there is none is refused.
 unfoldable pub loads_file : ℕ → Setting → List (List ℕ) → Load
 loads_file zero s stack name finished m r = ⊥
-loads_file (suc room) s stack name finished m r = and_then (reads s name) (loads_around (loads_file room s (stack ++ name ∷ [])) room (stack ++ name ∷ []) finished) m r
+loads_file (suc room) s stack name finished m r = and_then (reads s name) (loads_around (loads_file room s) room stack finished) m r
 
 -- what the source imports, of 63 files at most
 abbrev pub loads_behind : Setting → SourceFile → Sense → Came Sources → Type 0

@@ -83,5 +83,5 @@ pub record ProvesBytes (bytes : List ℕ) (budget : ℕ) (text : List ℕ) : Typ
 -- it is one of the program of the source in this file
 pub record Proves (s : Setting) (name : List ℕ) (budget : ℕ) (text : List ℕ) : Type 0 where
   pub bytes : List ℕ
-  pub source : IsAlone s name bytes
+  pub alone : IsAlone s name bytes
   pub proves : ProvesBytes bytes budget text

@@ -22,7 +22,7 @@ returns-in-Err-clause-gives g c = λ s during.
 
 pub returns-in-Ok-clause-file : goal.returns-in-Ok-clause-file
 returns-in-Ok-clause-file g c = λ s during.
-    let source = takes_nothing s c.args.name.now c.in-Ok.bytes (stated_value s (loads_alone s c.args.name.now) c.in-Ok.bytes (c.in-Ok.ensures.gives s during)) in
+    let alone = takes_nothing s c.args.name.now c.in-Ok.bytes (stated_value s (loads_alone s c.args.name.now) c.in-Ok.bytes (c.in-Ok.ensures.gives s during)) in
     let file = subst (λ (b : List ℕ). IfOk c.prove_source.result (λ (f : Proof). ProvesBytes b c.args.budget f.saved)) c.as_slice.ensures.value c.prove_source.ensures.file in
     IfOk-weaker c.prove_source.result (λ (f : Proof). ProvesBytes c.in-Ok.bytes c.args.budget f.saved) (λ (f : Proof). Proves s c.args.name.now c.args.budget f.saved)
-    (λ f h. record { bytes = c.in-Ok.bytes; source = source; proves = h }) file
+    (λ f h. record { bytes = c.in-Ok.bytes; alone = alone; proves = h }) file
