@@ -12,8 +12,6 @@ mod file;
 mod importing;
 mod law;
 mod loading;
-#[cfg(test)]
-mod tests;
 
 pub use alone::load_alone;
 pub use file::SourceFile;
