@@ -89,10 +89,11 @@ fault_of s name bytes f a is reads exact answers =
     called_fault s (λ m file. IsFile name bytes file) (text_faults name bytes) (is_faulted bytes) f a (λ un_so. is)
     (λ file h. memory f (λ n. never file.program f (reads file.program h.spelled n))) (λ g due un_so. sym (same_fault f g (exact g due (apart f un_so)))) answers
 
-pub spelled_fault : (s : Setting) (name bytes called read : List ℕ) (f : SourceFault) (a : Answer) → called ≡ name → read ≡ bytes → front.IsRefused read f → Reads read (Err f) → Faults read (Err f)
-    → AnswersFault (faults.is_no_memory f) 1 (text_line called read f) a → Gives s (spelled name bytes) (Err a)
-spelled_fault s name bytes called read f a named same is reads exact answers =
-    subst (λ (n : List ℕ). Gives s (spelled n bytes) (Err a)) named (subst (λ (b : List ℕ). Gives s (spelled called b) (Err a)) same (fault_of s called read f a is reads exact answers))
+pub spelled_fault : (s : Setting) (name bytes called read shown : List ℕ) (f : SourceFault) (a : Answer) → called ≡ name → read ≡ bytes → shown ≡ bytes → front.IsRefused read f → Reads read (Err f) → Faults read (Err f)
+    → AnswersFault (faults.is_no_memory f) 1 (text_line called shown f) a → Gives s (spelled name bytes) (Err a)
+spelled_fault s name bytes called read shown f a named same also is reads exact answers =
+    let told = subst (λ (b : List ℕ). AnswersFault (faults.is_no_memory f) 1 (text_line called b f) a) (also ∙ sym same) answers in
+    subst (λ (n : List ℕ). Gives s (spelled n bytes) (Err a)) named (subst (λ (b : List ℕ). Gives s (spelled called b) (Err a)) same (fault_of s called read f a is reads exact told))
 
 -- the line of a fault, by its place and its word
 pub line_of : (name bytes : List ℕ) (f : SourceFault) (at : ℕ) (called : List ℕ) → at ≡ faults.offset f → called ≡ faults.word f → fault_line name bytes at called ≡ text_line name bytes f

@@ -1,7 +1,7 @@
 -- Where a name is cut at its last slash.
 use Rattle.std.proofs.Common.{◌≡◌, ◌≢◌, ◌∙◌, ◌<◌, ◌≤◌, ◌+◌, ◌-◌, ℕ, zero, suc, List, length, get_or, take, drop, Some, None, MatchOption, Bor, ⊎_elim, arith, refl, sym, ap, get_or-drop, length-drop, eq-eqb, ne_eqb}
-use Rattle.core.specs.Option.{option_map}
-use Rattle.core.specs.declared.option.Option.{Option}
+use Rattle.std.specs.Option.{option_map}
+use Rattle.std.specs.Prelude.{Option}
 use Rattle.std.specs.Path.{rfind_below, rsplit_once}
 use Rattle.std.specs.Str.Pattern.{RFindsChar}
 use Rattle.std.proofs.lemmas.Bool.{cases_eq, cond-false, cond-true}

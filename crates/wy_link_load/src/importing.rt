@@ -10,7 +10,7 @@ use std::alloc::{AllocError, Global};
 use wy_data::Name;
 
 /// Why an import is refused.
-#[derive(Clone, Copy, Debug, PartialEq, Eq)]
+#[derive(Clone, Copy)]
 pub enum ImportFault {
     /// Its file is one of those that are being loaded: the file itself imports it, or one that leads there.
     Cycle,
@@ -21,7 +21,7 @@ pub enum ImportFault {
 }
 
 /// What becomes of an import.
-#[derive(Clone, Copy, Debug, PartialEq, Eq)]
+#[derive(Clone, Copy)]
 pub enum Import {
     /// Its file is loaded already, and so is all that it imports.
     Loaded,

@@ -78,7 +78,7 @@ fn load_file<F: Files>(
     loading: Loading,
     files: &mut F,
 ) -> Result<Loading, Answer>
-    requires { 0 < room }
+    requires room { 0 < room }
     ensures gives { During (F.told files.old) (F.load_faults files.old) (F.load_faults files.new) (F.misses files.old) (F.misses files.new) (λ s. Gives s (spec.loads_file room s loading.stack name loading.finished) (came finished_in result)) }
     ensures stack { IfOk result (λ after. after.stack ≡ loading.stack) }
     ensures kept { (other : List ℕ) → F.told files.new other ≡ F.told files.old other }
