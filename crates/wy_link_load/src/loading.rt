@@ -41,7 +41,10 @@ fn opened(alloc: Global, loading: Loading, name: &Name) -> Result<Loading, Answe
     ensures stack { IfOk result (λ inside. inside.stack ≡ loading.stack ++ name.now ∷ []) }
     ensures memory { IfErr result (λ answer. answer ≡ answers.no_memory) }
 {
-    let Loading { finished, mut stack } = loading;
+    let Loading {
+        finished,
+        mut stack,
+    } = loading;
     let copy = match name.copy(alloc) {
         Ok(copy) => copy,
         Err(_) => return Err(no_memory(alloc)),
