@@ -2,13 +2,13 @@
 use Rattle.std.proofs.Common.{◌≡◌, ℕ, ◌<◌, ◌≤◌, List, [], ◌∷◌, Bool, true, false, Option, Some, None, length, codes, refl, ap, ◌∙◌, subst, arith}
 use Rattle.wy_data.specs.scan.Front.{IsBehind, NotBehind}
 use Rattle.wy_term_text.specs.wy_term.Term.{Term}
-use Rattle.wy_term_text.specs.wy_term.Sorts.{formula_sort}
+use Rattle.wy_term_text.specs.wy_term.Sorts.{int_sort, formula_sort}
 use Rattle.wy_term_text.specs.spell.Made.{IsSpelled, SpellsNone, IsOnly}
 use Rattle.wy_cert.specs.declared.verb.Verb.TheVariants as verb
 use Rattle.wy_cert.specs.Only.{IsTheOne, HasNone}
 use Rattle.wy_cert.specs.Steps.{split, shut, chain, clash, sum_of, cut, inst, wit, fact, prod}
 use Rattle.wy_cert.specs.Numbers.{IsPlaceAt, NoPlace, NoSpacedPlace, NoLastPlace, IsMultiplierAt, NoMultiplier, ArePairs}
-use Rattle.wy_cert.specs.Arguments.{IsTerm, AreArguments}
+use Rattle.wy_cert.specs.Arguments.{AreArguments}
 use Rattle.wy_cert.specs.Lines.{IsSplit, IsShut, IsChain, IsOther, IsClash, IsSum, IsCutStep, IsInst, IsWit, IsFact, IsProd, IsBody}
 use Rattle.wy_cert.proofs.NumberLemmas.{one_place, one_multiplier, length_none}
 use Rattle.wy_cert.proofs.TermLemmas.{only_spelled}
@@ -158,15 +158,15 @@ rest_same text more rest m n a b = let e = (one_place text m n (32 ∷ more) (32
 pub inst_no_place : (text : List ℕ) → NoSpacedPlace text → HasNone (IsInst text)
 inst_no_place text never = record { none = λ w h. never.none h.first h.rest h.literal }
 
-pub inst_no_term : (text rest : List ℕ) (i : ℕ) → IsPlaceAt text i (32 ∷ rest) → HasNone (IsTerm rest) → HasNone (IsInst text)
-inst_no_term text rest i here never = record { none = λ w h. never.none h.term (subst (λ r. IsTerm r h.term) (rest_same text h.rest rest h.first i h.literal here) h.spelled) }
+pub inst_no_term : (text rest : List ℕ) (i : ℕ) → IsPlaceAt text i (32 ∷ rest) → HasNone (IsSpelled int_sort rest) → HasNone (IsInst text)
+inst_no_term text rest i here never = record { none = λ w h. never.none h.term (subst (λ r. IsSpelled int_sort r h.term) (rest_same text h.rest rest h.first i h.literal here) h.spelled) }
 
-pub inst_here : (text rest : List ℕ) (i : ℕ) (t : Term) → IsPlaceAt text i (32 ∷ rest) → IsTheOne (IsTerm rest) t → IsTheOne (IsInst text) (inst i t)
+pub inst_here : (text rest : List ℕ) (i : ℕ) (t : Term) → IsPlaceAt text i (32 ∷ rest) → IsTheOne (IsSpelled int_sort rest) t → IsTheOne (IsInst text) (inst i t)
 inst_here text rest i t here term = record {
   holds = record { first = i; rest = rest; term = t; literal = here; spelled = term.holds; is = refl };
   only = λ w h.
       let first : h.first ≡ i = (one_place text h.first i (32 ∷ h.rest) (32 ∷ rest) h.literal here).number in
-      let second : h.term ≡ t = term.only h.term (subst (λ r. IsTerm r h.term) (rest_same text h.rest rest h.first i h.literal here) h.spelled) in
+      let second : h.term ≡ t = term.only h.term (subst (λ r. IsSpelled int_sort r h.term) (rest_same text h.rest rest h.first i h.literal here) h.spelled) in
       let is : w ≡ inst h.first h.term = h.is in
       cc;
 }
@@ -221,21 +221,21 @@ product_no_second text between i here never = record {
   none = λ w h. never.none h.second h.rest (subst (λ r. IsPlaceAt r h.second (32 ∷ h.rest)) (rest_same text h.between between h.first i h.literal here) h.other);
 }
 
-pub product_no_term : (text between rest : List ℕ) (i j : ℕ) → IsPlaceAt text i (32 ∷ between) → IsPlaceAt between j (32 ∷ rest) → HasNone (IsTerm rest) → HasNone (IsProd true text)
+pub product_no_term : (text between rest : List ℕ) (i j : ℕ) → IsPlaceAt text i (32 ∷ between) → IsPlaceAt between j (32 ∷ rest) → HasNone (IsSpelled int_sort rest) → HasNone (IsProd true text)
 product_no_term text between rest i j here other never = record {
   none = λ w h.
       let second = subst (λ r. IsPlaceAt r h.second (32 ∷ h.rest)) (rest_same text h.between between h.first i h.literal here) h.other in
-      never.none h.term (subst (λ r. IsTerm r h.term) (rest_same between h.rest rest h.second j second other) h.spelled);
+      never.none h.term (subst (λ r. IsSpelled int_sort r h.term) (rest_same between h.rest rest h.second j second other) h.spelled);
 }
 
-pub product_here : (text between rest : List ℕ) (i j : ℕ) (p : Term) → IsPlaceAt text i (32 ∷ between) → IsPlaceAt between j (32 ∷ rest) → IsTheOne (IsTerm rest) p → IsTheOne (IsProd true text) (prod i j p)
+pub product_here : (text between rest : List ℕ) (i j : ℕ) (p : Term) → IsPlaceAt text i (32 ∷ between) → IsPlaceAt between j (32 ∷ rest) → IsTheOne (IsSpelled int_sort rest) p → IsTheOne (IsProd true text) (prod i j p)
 product_here text between rest i j p here other term = record {
   holds = record { first = i; between = between; second = j; rest = rest; term = p; allowed = refl; literal = here; other = other; spelled = term.holds; is = refl };
   only = λ w h.
       let there : IsPlaceAt between h.second (32 ∷ h.rest) = subst (λ r. IsPlaceAt r h.second (32 ∷ h.rest)) (rest_same text h.between between h.first i h.literal here) h.other in
       let first : h.first ≡ i = (one_place text h.first i (32 ∷ h.between) (32 ∷ between) h.literal here).number in
       let second : h.second ≡ j = (one_place between h.second j (32 ∷ h.rest) (32 ∷ rest) there other).number in
-      let third : h.term ≡ p = term.only h.term (subst (λ r. IsTerm r h.term) (rest_same between h.rest rest h.second j there other) h.spelled) in
+      let third : h.term ≡ p = term.only h.term (subst (λ r. IsSpelled int_sort r h.term) (rest_same between h.rest rest h.second j there other) h.spelled) in
       let is : w ≡ prod h.first h.second h.term = h.is in
       cc;
 }

@@ -23,14 +23,14 @@ term_none text never = record { none = λ t h. no_term text t never h }
 pub term_here : (text : List ℕ) (t : Term) → IsTerm text t → IsOnlyTerm text t → IsTheOne (IsTerm text) t
 term_here text t here only = record { holds = here; only = λ u h. only_term text t u only h }
 
--- what `read_term` answers
-pub term_read : {E : Type 0} (at : ℕ → Term) (text : List ℕ) (r : Result (Option ℕ) E) → IfOk r (λ o. IfSome o (λ t. IsTerm text (at t))) → IfOk r (λ o. MatchOption o (SpellsNoTerm text) (λ t. IsOnlyTerm text (at t)))
-    → IfOk r (λ o. MatchOption o (HasNone (IsTerm text)) (λ t. IsTheOne (IsTerm text) (at t)))
-term_read at text (Ok None) spells exact = term_none text exact
-term_read at text (Ok (Some t)) spells exact = term_here text (at t) spells exact
-term_read at text (Err e) spells exact = exact
+-- what `read_int_term` answers
+pub int_read : {E : Type 0} (at : ℕ → Term) (text : List ℕ) (r : Result (Option ℕ) E) → IfOk r (λ o. IfSome o (λ t. IsSpelled int_sort text (at t))) → IfOk r (λ o. MatchOption o (SpellsNone int_sort text) (λ t. IsOnly int_sort text (at t)))
+    → IfOk r (λ o. MatchOption o (HasNone (IsSpelled int_sort text)) (λ t. IsTheOne (IsSpelled int_sort text) (at t)))
+int_read at text (Ok None) spells exact = record { none = λ t h. exact.none h.raw h.spells }
+int_read at text (Ok (Some t)) spells exact = record { holds = spells; only = λ u h. only_spelled int_sort text (at t) u exact h }
+int_read at text (Err e) spells exact = exact
 
-pub ruleset term_steps = (term_read)
+pub ruleset int_steps = (int_read)
 
 -- ---- arguments
 

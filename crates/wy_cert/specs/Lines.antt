@@ -2,13 +2,13 @@
 use Rattle.std.specs.Prelude.{◌≡◌, ℕ, ◌<◌, ◌≤◌, List, [], ◌∷◌, Bool, true, false, codes, length, Option, Some, None}
 use Rattle.wy_data.specs.scan.Front.{IsBehind}
 use Rattle.wy_term_text.specs.wy_term.Term.{Term}
-use Rattle.wy_term_text.specs.wy_term.Sorts.{formula_sort}
+use Rattle.wy_term_text.specs.wy_term.Sorts.{int_sort, formula_sort}
 use Rattle.wy_term_text.specs.spell.Made.{IsSpelled}
 use Rattle.wy_cert.specs.declared.verb.Verb.{Verb}
 use Rattle.wy_cert.specs.declared.verb.Verb.TheVariants as verb
 use Rattle.wy_cert.specs.Steps.{Written, split, shut, chain, clash, sum_of, cut, inst, wit, fact, prod}
 use Rattle.wy_cert.specs.Numbers.{IsPlaceAt, IsMultiplierAt, ArePairs}
-use Rattle.wy_cert.specs.Arguments.{IsTerm, AreArguments}
+use Rattle.wy_cert.specs.Arguments.{AreArguments}
 
 -- ---- what a line begins with
 
@@ -75,7 +75,7 @@ pub record IsInst (text : List ℕ) (w : Written) : Type 0 where
   pub rest : List ℕ
   pub term : Term
   pub literal : IsPlaceAt text first (32 ∷ rest)
-  pub spelled : IsTerm rest term
+  pub spelled : IsSpelled int_sort rest term
   pub is : w ≡ inst first term
 
 pub record IsWit (text : List ℕ) (w : Written) : Type 0 where
@@ -101,7 +101,7 @@ pub record IsProd (products : Bool) (text : List ℕ) (w : Written) : Type 0 whe
   pub allowed : products ≡ true
   pub literal : IsPlaceAt text first (32 ∷ between)
   pub other : IsPlaceAt between second (32 ∷ rest)
-  pub spelled : IsTerm rest term
+  pub spelled : IsSpelled int_sort rest term
   pub is : w ≡ prod first second term
 
 -- the text behind the word spells what the step has; `prod` may stand where products are allowed

@@ -1,11 +1,13 @@
 //! Terms of a line.
 ghost use Rattle.std.specs.Prelude.{◌≡◌, ◌<◌, ◌≤◌, ℕ, All, IfOk, IfSome, MatchOption, length, map};
 ghost use Rattle.wy_term_text.specs.wy_term.Nodes.{tree_at};
+ghost use Rattle.wy_term_text.specs.wy_term.Sorts.{int_sort};
+ghost use Rattle.wy_term_text.specs.spell.Made.{IsSpelled};
 ghost use Rattle.wy_cert.specs.Only.{IsTheOne, HasNone};
-ghost use Rattle.wy_cert.specs.Arguments.{IsCut, NoCut, IsTerm, IsArgument, AreArguments};
+ghost use Rattle.wy_cert.specs.Arguments.{IsCut, NoCut, IsArgument, AreArguments};
 
 use wy_data::scan::behind;
-use wy_term_text::spell::{read_formula, read_term};
+use wy_term_text::spell::{read_formula, read_int_term, read_term};
 use wy_term_text::{NoMemory, Terms};
 
 // The bytes before the first ` ; `, and those behind it if there is one.
@@ -21,15 +23,15 @@ fn cut_first(text: &[u8]) -> (&[u8], Option<&[u8]>)
     (text, None)
 }
 
-/// The Int term or Val term that the text spells. Older numbers name what they named.
-#[tactic(auto, using(crate::proofs::TermLemmas::term_steps))]
-pub(crate) fn term(terms: &mut Terms, text: &[u8]) -> Result<Option<u32>, NoMemory>
-    ensures value { IfOk result (λ o. MatchOption o (HasNone (IsTerm text.now)) (λ t. IsTheOne (IsTerm text.now) (tree_at terms.new t))) }
+/// The Int term that the text spells. Older numbers name what they named.
+#[tactic(auto, using(crate::proofs::TermLemmas::int_steps))]
+pub(crate) fn int_term(terms: &mut Terms, text: &[u8]) -> Result<Option<u32>, NoMemory>
+    ensures value { IfOk result (λ o. MatchOption o (HasNone (IsSpelled int_sort text.now)) (λ t. IsTheOne (IsSpelled int_sort text.now) (tree_at terms.new t))) }
     ensures within { IfOk result (λ o. IfSome o (λ t. t < length terms.new)) }
     ensures kept { (t : ℕ) → t < length terms.old → tree_at terms.new t ≡ tree_at terms.old t }
     ensures grows { length terms.old ≤ length terms.new }
 {
-    read_term(terms, text)
+    read_int_term(terms, text)
 }
 
 // The argument that the text spells: a formula too, where formulas may stand and the text spells no term.

@@ -6,7 +6,7 @@ ghost use Rattle.wy_cert.specs.Only.{IsTheOne, HasNone};
 ghost use Rattle.wy_cert.specs.Steps.{written, IsBelow};
 ghost use Rattle.wy_cert.specs.Lines.{IsSplit, IsShut, IsChain, IsOther, IsClash, IsSum, IsCutStep, IsInst, IsWit, IsFact, IsProd, IsBody, IsStep};
 
-use crate::arguments::{arguments, term};
+use crate::arguments::{arguments, int_term};
 use crate::numbers::{last_place, multiplier, pairs, place, spaced_place};
 use crate::step::Step;
 use crate::verb::{Verb, verb_of};
@@ -182,7 +182,7 @@ fn inst(terms: &mut Terms, text: &[u8]) -> Result<Option<Step>, NoMemory>
     let Some((i, rest)) = spaced_place(terms.allocator(), text)? else {
         return Ok(None);
     };
-    match term(terms, rest)? {
+    match int_term(terms, rest)? {
         None => Ok(None),
         Some(t) => Ok(Some(Step::Inst(i, t))),
     }
@@ -231,7 +231,7 @@ fn product(terms: &mut Terms, text: &[u8]) -> Result<Option<Step>, NoMemory>
     let Some((j, rest)) = spaced_place(terms.allocator(), rest)? else {
         return Ok(None);
     };
-    match term(terms, rest)? {
+    match int_term(terms, rest)? {
         None => Ok(None),
         Some(p) => Ok(Some(Step::Prod(i, j, p))),
     }

@@ -4,12 +4,12 @@ use Rattle.std.specs.Prelude.{IfOk, option_map}
 use Rattle.wy_facts.specs.Schema.{only_if}
 use Rattle.wy_term.specs.Term.{Term}
 use Rattle.wy_term.specs.Condition.{Entry}
-use Rattle.wy_vc_laws.specs.wy_check_spec.judge.Node.{Node, added, denied_one}
+use Rattle.wy_vc_laws.specs.wy_check_spec.judge.Node.{Node, is_atom, added, denied_one}
 use Rattle.wy_lin.specs.Linear.{◌>>=◌, Linear}
 use Rattle.wy_cert.specs.Steps.{split, shut, chain, clash, sum_of, cut, inst, wit, fact, prod}
 use Rattle.wy_vc_laws.specs.wy_check_spec.valid.Literals.{is_shut}
 use Rattle.wy_vc_laws.specs.wy_check_spec.valid.Sums.{summed, is_refuting, cut_of}
-use Rattle.wy_vc_laws.specs.wy_check_spec.valid.Ranges.{may_split, instance_stated, witness_stated}
+use Rattle.wy_vc_laws.specs.wy_check_spec.valid.Ranges.{instance_stated, witness_stated}
 use Rattle.wy_vc_laws.specs.wy_check_spec.valid.Products.{product_stated}
 use Rattle.wy_vc_laws.specs.wy_check_spec.valid.Membership.{fact_among}
 use Rattle.wy_vc_laws.specs.wy_check_spec.valid.Validity.{closed, left_with, left_with_one, chain_stated, is_clash, after}
@@ -22,16 +22,15 @@ some_nodes ns = Some ns
 abbrev no_nodes : Option (List Node)
 no_nodes = None
 
-split_test : (node seen : Node) (a f : Term) (may b : Bool) → seen ≡ node → a ≡ f → may ≡ may_split seen a → may ≡ b → may_split node f ≡ b
-split_test node seen a f may b same e gave is = ap (λ (n : Node). may_split n f) (sym same) ∙ (ap (may_split seen) (sym e) ∙ (sym gave ∙ is))
+split_test : (a f : Term) (atom b : Bool) → a ≡ f → atom ≡ is_atom a → atom ≡ b → is_atom f ≡ b
+split_test a f atom b e gave is = ap is_atom (sym e) ∙ (sym gave ∙ is)
 
-pub split_yes : (types : List Entry) (node seen : Node) (a f : Term) (may : Bool) → seen ≡ node → a ≡ f → may ≡ may_split seen a → may ≡ true → some_nodes (added node a ∷ denied_one node a ∷ []) ≡ after types node (split f)
-split_yes types node seen a f may same e gave is =
-    ap (λ (x : Term). some_nodes (added node x ∷ denied_one node x ∷ [])) e
-    ∙ sym (ap (λ (b : Bool). only_if b (some_nodes (added node f ∷ denied_one node f ∷ []))) (split_test node seen a f may true same e gave is))
+pub split_yes : (types : List Entry) (node : Node) (a f : Term) (atom : Bool) → a ≡ f → atom ≡ is_atom a → atom ≡ true → some_nodes (added node a ∷ denied_one node a ∷ []) ≡ after types node (split f)
+split_yes types node a f atom e gave is =
+    ap (λ (x : Term). some_nodes (added node x ∷ denied_one node x ∷ [])) e ∙ sym (ap (λ (b : Bool). only_if b (some_nodes (added node f ∷ denied_one node f ∷ []))) (split_test a f atom true e gave is))
 
-pub split_no : (types : List Entry) (node seen : Node) (a f : Term) (may : Bool) → seen ≡ node → a ≡ f → may ≡ may_split seen a → may ≡ false → no_nodes ≡ after types node (split f)
-split_no types node seen a f may same e gave is = sym (ap (λ (b : Bool). only_if b (some_nodes (added node f ∷ denied_one node f ∷ []))) (split_test node seen a f may false same e gave is))
+pub split_no : (types : List Entry) (node : Node) (a f : Term) (atom : Bool) → a ≡ f → atom ≡ is_atom a → atom ≡ false → no_nodes ≡ after types node (split f)
+split_no types node a f atom e gave is = sym (ap (λ (b : Bool). only_if b (some_nodes (added node f ∷ denied_one node f ∷ []))) (split_test a f atom false e gave is))
 
 pub shut_led : (types : List Entry) (node : Node) (holds : Bool) → holds ≡ is_shut node → only_if holds closed ≡ after types node shut
 shut_led types node holds e = ap (λ (b : Bool). only_if b closed) e

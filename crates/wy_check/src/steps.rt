@@ -6,6 +6,7 @@ ghost use Rattle.wy_facts.specs.Membership.{AreTypesBelow};
 ghost use Rattle.wy_facts.specs.Seen.{terms_at, AreBelow, Stays};
 ghost use Rattle.wy_check_splits.specs.wy_check_nodes.Seen.{seen_branch, IsBranch};
 ghost use Rattle.wy_cert.specs.Steps.{split, shut, chain, clash, sum_of, cut, inst, wit, fact as fact_step, prod, written, IsBelow};
+ghost use Rattle.wy_vc_laws.specs.wy_check_spec.judge.Node.{Node};
 ghost use Rattle.wy_vc_laws.specs.wy_check_spec.valid.Membership.{fact_among};
 ghost use Rattle.wy_vc_laws.specs.wy_check_spec.valid.Validity.{after};
 ghost use Rattle.wy_check.specs.Led.{led, IsOutcomeOver};
@@ -15,27 +16,20 @@ use crate::outcome::{Outcome, adds, adds_one, closes};
 use crate::product::product_stated;
 use wy_cert::Step;
 use wy_check_splits::{
-    Branch, chain_stated, cut_stated, instance_stated, is_clash, is_refuting, is_shut, may_split,
+    Branch, chain_stated, cut_stated, instance_stated, is_atom, is_clash, is_refuting, is_shut,
     witness_stated,
 };
 use wy_facts::fact;
 use wy_term::{Cond, NoMemory, Terms};
 
-fn by_split(
-    terms: &mut Terms,
-    branch: &Branch,
-    from: &Terms,
-    f: u32,
-) -> Result<Option<Outcome>, NoMemory>
-    requires branch { IsBranch terms.old branch.now }
-    requires formula { f < length from.now }
-    ensures value { (types : List Entry) → IfOk result (λ o. option_map (led (tree_at terms.new) (seen_branch (tree_at terms.old) branch.now)) o ≡ after types (seen_branch (tree_at terms.old) branch.now) (split (tree_at from.now f))) }
+fn by_split(terms: &mut Terms, from: &Terms, f: u32) -> Result<Option<Outcome>, NoMemory>
+    requires { f < length from.now }
+    ensures value { (types : List Entry) (node : Node) → IfOk result (λ o. option_map (led (tree_at terms.new) node) o ≡ after types node (split (tree_at from.now f))) }
     ensures within { IfOk result (λ o. IfSome o (IsOutcomeOver (length terms.new))) }
     ensures stays { Stays terms.old terms.new }
 {
     let atom = brought(terms, from, f)?;
-    let may = may_split(terms, branch, atom)?;
-    if may {
+    if is_atom(terms, atom) {
         Ok(Some(Outcome::Splits(atom)))
     } else {
         Ok(None)
@@ -215,7 +209,7 @@ pub fn outcome_of(
     ensures stays { Stays terms.old terms.new }
 {
     match step {
-        Step::Split(f) => by_split(terms, branch, from, *f),
+        Step::Split(f) => by_split(terms, from, *f),
         Step::Shut => by_shut(terms, branch),
         Step::Chain(all) => by_chain(terms, branch, from, all),
         Step::Clash(i, other) => by_clash(terms, branch, *i, *other),

@@ -36,7 +36,7 @@ pub use adding::{add, add_all, first_branch};
 pub use branch::{
     Branch, add_literal, add_pending, back_to, bare, has_literal, literal_at, nth_literal,
 };
-pub use connectives::is_connective;
+pub use connectives::{is_atom, is_connective};
 pub use cut::cut_stated;
 pub use judging::{is_refuted, judge, nothing_known, pending_at};
 pub use refuting::is_refuting;

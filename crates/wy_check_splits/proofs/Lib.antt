@@ -8,7 +8,6 @@ pub mod CommonLemmas
 pub mod GivenLemmas
 pub mod WalkLemmas
 pub mod FreeLemmas
-pub mod CaughtLemmas
 pub mod SharedLemmas
 -- passed on to the crates above
 pub use Rattle.wy_check_nodes.proofs as wy_check_nodes_proofs

@@ -1,29 +1,19 @@
 -- What is told of the terms that are still to be looked at.
-use Rattle.std.proofs.Common.{◌≡◌, ◌<◌, ◌+◌, ◌||◌, ℕ, zero, suc, List, [], ◌∷◌, ◌++◌, map, take, get_or, length, Bool, true, false, Some, refl, sym, ap, ◌∙◌, subst, arith, length-append}
+use Rattle.std.proofs.Common.{◌≡◌, ◌<◌, ◌+◌, ◌||◌, ℕ, zero, suc, List, [], ◌∷◌, ◌++◌, take, get_or, length, Bool, true, false, Some, refl, sym, ap, ◌∙◌, subst, arith}
 use Rattle.std.specs.Prelude.{slice_get}
 use Rattle.std.specs.Ordering.{nat_cmp, match_ordering}
 use Rattle.std.specs.declared.cmp.Ordering.{Ordering}
 use Rattle.std.specs.declared.cmp.Ordering.TheVariants.{Less, Equal, Greater}
 use Rattle.std.specs.FinMap.{nat_cmp-IsAntisymmetric}
 use Rattle.std.specs.BTreeSet.{insert_key}
-use Rattle.std.proofs.lemmas.List.{take_more, get_or_append_left}
+use Rattle.std.proofs.lemmas.List.{take_more}
 use Rattle.std.proofs.lemmas.Map.Views.{All-insert_key}
-use Rattle.wy_lemmas.proofs.Choices.{or_none, or_assoc, or_swapped as or_swap}
+use Rattle.wy_lemmas.proofs.Choices.{or_assoc, or_swapped as or_swap}
 use Rattle.wy_lemmas.proofs.Lists.{take_next}
 use Rattle.wy_lemmas.proofs.Options.{pair_is}
-use Rattle.wy_check_nodes.specs.wy_term.Term.{Symbol, Term, denied}
-use Rattle.wy_check_nodes.specs.wy_term.Nodes.{Plain, parts_at, grown}
 use Rattle.wy_check_nodes.specs.wy_facts.Seen.{AreBelow}
-use Rattle.wy_check_nodes.specs.wy_term_subst.Names.{any_symbol, any_in_parts}
-use Rattle.wy_check_nodes.specs.Seen.{seen_literal, seen_formula, AreOver}
-use Rattle.wy_check_nodes.specs.wy_check_spec.valid.Ranges.{any_in_literals, any_in_formulas}
+use Rattle.wy_check_nodes.specs.Seen.{AreOver}
 use Rattle.wy_check_splits.specs.Walk.{any_over, any_first}
-
-pub or_cross : (a b c d : Bool) → ((a || b) || (c || d)) ≡ (b || ((a || c) || d))
-or_cross true true c d = refl
-or_cross true false c d = refl
-or_cross false true c d = refl
-or_cross false false c d = refl
 
 or_twice : (a b : Bool) → (a || b) ≡ (a || (a || b))
 or_twice true b = refl
@@ -79,15 +69,6 @@ put_more test parts i old new first lt puts so =
 pub below_put : (n : ℕ) (old new : List ℕ) (k : ℕ) → new ≡ insert_key nat_cmp old k → k < n → AreBelow n old → AreBelow n new
 below_put n old new k puts lt below = subst (AreBelow n) (sym puts) (All-insert_key nat_cmp k (λ (j : ℕ). j < n) old below lt)
 
-pub below_left : (n : ℕ) (old new : List ℕ) (t : ℕ) → old ≡ new ++ t ∷ [] → AreBelow n old → AreBelow n new
-below_left n old new t e below i d lt =
-    let all : AreBelow n (new ++ t ∷ []) = subst (AreBelow n) e below in
-    let same : get_or (new ++ t ∷ []) i d ≡ get_or new i d = get_or_append_left new (t ∷ []) d i lt in
-    subst (λ (k : ℕ). k < n) same (all i d (longer new lt))
-  where
-    longer : (xs : List ℕ) → i < length xs → i < length (xs ++ t ∷ [])
-    longer xs less = omega (arith, length-append xs (t ∷ []))
-
 -- ---- one member after the other
 
 pub member_more : (test : ℕ → Bool) (ps : List (ℕ × Bool)) (i : ℕ) (p : ℕ × Bool) (old new : List ℕ) (first : Bool) → slice_get ps i ≡ Some p → new ≡ insert_key nat_cmp old p.0 → any_over test old ≡ (any_first test (take i ps) || first) → any_over test new ≡ (any_first test (take (i + 1) ps) || first)
@@ -110,50 +91,7 @@ member_below n [] i p e over = absurd cc
 member_below n (q ∷ qs) zero p e over = subst (λ (x : ℕ × Bool). x.0 < n) (pair_is q p e) over.0
 member_below n (q ∷ qs) (suc i) p e over = member_below n qs i p e over.1
 
--- ---- literals and pending formulas
-
-pub in_literals : (test : Symbol → Bool) (at : ℕ → Term) (ps : List (ℕ × Bool)) → any_in_literals test (map (seen_literal at) ps) ≡ any_first (λ k. any_symbol test (at k)) ps
-in_literals test at [] = refl
-in_literals test at (p ∷ ps) = ap (λ (b : Bool). any_symbol test (at p.0) || b) (in_literals test at ps)
-
-one_formula : (test : Symbol → Bool) (at : ℕ → Term) (k : ℕ) (holds : Bool) → test denied ≡ false → any_symbol test (seen_formula at (k, holds)) ≡ any_symbol test (at k)
-one_formula test at k true un = refl
-one_formula test at k false un = ap (λ (b : Bool). b || (any_symbol test (at k) || false)) un ∙ or_none (any_symbol test (at k))
-
-pub in_formulas : (test : Symbol → Bool) (at : ℕ → Term) (ps : List (ℕ × Bool)) → test denied ≡ false → any_in_formulas test (map (seen_formula at) ps) ≡ any_first (λ k. any_symbol test (at k)) ps
-in_formulas test at [] un = refl
-in_formulas test at (p ∷ ps) un =
-    ap (λ (b : Bool). b || any_in_formulas test (map (seen_formula at) ps)) (one_formula test at p.0 p.1 un)
-    ∙ ap (λ (b : Bool). any_symbol test (at p.0) || b) (in_formulas test at ps un)
-
--- ---- parts
-
-pub in_parts : (test : Symbol → Bool) (at : ℕ → Term) (ks : List ℕ) → any_in_parts test (parts_at at ks) ≡ any_over (λ k. any_symbol test (at k)) ks
-in_parts test at [] = refl
-in_parts test at (k ∷ ks) = ap (λ (b : Bool). any_symbol test (at k) || b) (in_parts test at ks)
-
--- the test of a term is that of its symbol, and those of its parts
-pub in_node : (test : Symbol → Bool) (at : ℕ → Term) (t : Term) (p : Plain) → t ≡ grown at p → any_symbol test t ≡ (test p.symbol || any_over (λ k. any_symbol test (at k)) p.parts)
-in_node test at t p e = ap (any_symbol test) e ∙ ap (λ (b : Bool). test p.symbol || b) (in_parts test at p.parts)
-
 -- ---- one step
-
--- the terms of a node's literals and pending formulas
-pub node_told : (test : Symbol → Bool) (at : ℕ → Term) (ls ps : List (ℕ × Bool)) (none one both : List ℕ) → test denied ≡ false → none ≡ [] → any_over (λ k. any_symbol test (at k)) one ≡ (any_first (λ k. any_symbol test (at k)) ps || any_over (λ k. any_symbol test (at k)) none) → any_over (λ k. any_symbol test (at k)) both ≡ (any_first (λ k. any_symbol test (at k)) ls || any_over (λ k. any_symbol test (at k)) one) → any_over (λ k. any_symbol test (at k)) both ≡ (any_in_literals test (map (seen_literal at) ls) || any_in_formulas test (map (seen_formula at) ps))
-node_told test at ls ps none one both un empty first second =
-    let f : ℕ → Bool = λ k. any_symbol test (at k) in
-    second
-    ∙ (ap (λ (b : Bool). b || any_over f one) (sym (in_literals test at ls))
-    ∙ ap (λ (b : Bool). any_in_literals test (map (seen_literal at) ls) || b) (first ∙ (ap (λ (ks : List ℕ). any_first f ps || any_over f ks) empty ∙ (or_none (any_first f ps) ∙ sym (in_formulas test at ps un)))))
-
--- a term that was looked at: what its symbol tells is noted, and its parts are to be looked at
-pub note_told : (test : Symbol → Bool) (at : ℕ → Term) (t : Term) (p : Plain) (old new : Bool) (ks todo after : List ℕ) → t ≡ grown at p → ks ≡ p.parts → new ≡ (test p.symbol || old) → any_over (λ k. any_symbol test (at k)) after ≡ (any_over (λ k. any_symbol test (at k)) ks || any_over (λ k. any_symbol test (at k)) todo) → (new || any_over (λ k. any_symbol test (at k)) after) ≡ (old || (any_symbol test t || any_over (λ k. any_symbol test (at k)) todo))
-note_told test at t p old new ks todo after tree parts told put =
-    let f : ℕ → Bool = λ k. any_symbol test (at k) in
-    ap (λ (b : Bool). b || any_over f after) told
-    ∙ (ap (λ (b : Bool). (test p.symbol || old) || b) put
-    ∙ (or_cross (test p.symbol) old (any_over f ks) (any_over f todo)
-    ∙ ap (λ (b : Bool). old || (b || any_over f todo)) (ap (λ (js : List ℕ). test p.symbol || any_over f js) parts ∙ sym (in_node test at t p tree))))
 
 -- a term that was looked at: it is the name, or its open parts are to be looked at
 pub look_told : (free : ℕ → Bool) (is whole : Bool) (ks ps todo after : List ℕ) → whole ≡ (is || any_over free ps) → ks ≡ ps → any_over free after ≡ (any_over free ks || any_over free todo) → (is || any_over free after) ≡ (whole || any_over free todo)

@@ -1,8 +1,6 @@
 -- What is told of the terms that are still to be looked at, where `at` gives the term of a number.
 use Rattle.std.specs.Prelude.{ℕ, List, [], ◌∷◌, Bool, false, ◌||◌}
 use Rattle.wy_check_nodes.specs.wy_term.Term.{Term}
-use Rattle.wy_check_nodes.specs.wy_term_subst.Names.{any_symbol}
-use Rattle.wy_check_nodes.specs.wy_check_spec.valid.Ranges.{binds_it}
 use Rattle.wy_check_splits.specs.Free.{stands_free}
 
 -- the test holds of one of these numbers
@@ -14,10 +12,6 @@ any_over test (k ∷ ks) = test k || any_over test ks
 abbrev pub any_first : (ℕ → Bool) → List (ℕ × Bool) → Bool
 any_first test [] = false
 any_first test (p ∷ ps) = test p.0 || any_first test ps
-
--- a quantifier in the term with this number binds the name
-abbrev pub binds_in : (ℕ → Term) → List ℕ → ℕ → ℕ → Bool
-binds_in at w n k = any_symbol (binds_it w n) (at k)
 
 -- the name stands free in the term with this number
 abbrev pub free_in : (ℕ → Term) → List ℕ → ℕ → ℕ → Bool

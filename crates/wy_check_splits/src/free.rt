@@ -2,8 +2,7 @@
 ghost use Rattle.std.specs.Prelude.{◌≡◌, ◌<◌, ◌||◌, length, IfOk};
 ghost use Rattle.wy_check_nodes.specs.wy_term.Nodes.{plain, tree_at};
 ghost use Rattle.wy_check_nodes.specs.wy_facts.Seen.{AreBelow};
-ghost use Rattle.wy_check_nodes.specs.wy_check_spec.valid.Ranges.{binds_it};
-ghost use Rattle.wy_check_splits.specs.Free.{is_it, open_parts, stands_free};
+ghost use Rattle.wy_check_splits.specs.Free.{binds_it, is_it, open_parts, stands_free};
 ghost use Rattle.wy_check_splits.specs.Walk.{any_over, free_in};
 
 use crate::todo::put_all;

@@ -17,16 +17,14 @@
 //! and `meeting` tells whether two groups have a term in common. `clash` puts these together. The definitions are those of
 //! `wy_check_spec`.
 //!
-//! Whether a formula may be split on: an atom of which no free name is bound in the node.
+//! Whether a name stands free in a term.
 //!
 //! `todo` keeps which terms are still to be looked at, each once: the greatest number comes first, and a term's parts have
-//! smaller ones. `bound` has the names that the quantifiers of a node bind, and `free` tells whether a name stands free in a
-//! term. `splitting` puts these together. The definition is that of `wy_check_spec`.
+//! smaller ones. `free` goes through them.
 #![tactic(auto)]
 
 mod alike;
 mod alone;
-mod bound;
 mod chain;
 mod clash;
 mod constants;
@@ -40,7 +38,6 @@ mod meeting;
 mod numbers;
 mod quantifier;
 mod sorts;
-mod splitting;
 mod todo;
 mod witness;
 
@@ -52,11 +49,10 @@ pub use instance::{instance_at, instance_stated, name};
 pub use kinds::{copied_kind, kind_given, same_kind};
 pub use numbers::fresh_number;
 pub use quantifier::{Range, of_each, of_one};
-pub use splitting::may_split;
 pub use todo::{put_all, put_members};
 pub use witness::{witness_stated, witnessed_at};
 pub use wy_check_nodes::{
     Branch, Trail, add_literal, add_pending, back_to, bare, close, cut_stated, fails, first_branch,
-    form_at, grow, has_literal, is_connective, is_refuting, is_shut, judge, nothing_known,
+    form_at, grow, has_literal, is_atom, is_connective, is_refuting, is_shut, judge, nothing_known,
     nth_literal, one_node, pending_at, split,
 };

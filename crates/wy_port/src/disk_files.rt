@@ -3,16 +3,16 @@ ghost use Rattle.std.specs.Prelude.{◌≡◌, ◌≤◌, IfOk, vec_len};
 ghost use Rattle.wy_port.specs.Told.Told.{Unknown};
 
 use crate::files::{Files, LoadFault, SaveFault};
-use crate::sink::write_whole;
-use crate::std_sink::StdSink;
+use crate::whole_save;
 use std::alloc::Global;
 use std::io::{ErrorKind, Read};
 use std::{fs, rt};
 
 /// The files of a runtime, as those of the system. It tells no contents.
 ///
-/// A name is a path. Its counts stand at 0 first. A load reads at most one byte more than its limit, and a save
-/// writes over what stood under the name; a save that failed may leave a part of its bytes there.
+/// A name is a path. Its counts stand at 0 first. A load reads at most one byte more than its limit. A save writes a new
+/// file beside the old one, makes it whole on the disk and puts it in the old one's place, so that on any failure the old
+/// file is as it was. What is no regular file, as a terminal or a pipe, is written over.
 #[derive(Drop)]
 pub struct DiskFiles<'a, R: rt::Files> {
     rt: &'a R,
@@ -22,8 +22,12 @@ pub struct DiskFiles<'a, R: rt::Files> {
 }
 
 impl<'a, R: rt::Files> DiskFiles<'a, R> {
-    /// The files of `rt`.
-    pub fn new(rt: &'a R) -> DiskFiles<'a, R> {
+    /// The files of `rt`, with no fault yet.
+    pub fn new(rt: &'a R) -> DiskFiles<'a, R>
+        ensures load_faults { result.load_faults ≡ 0 }
+        ensures save_faults { result.save_faults ≡ 0 }
+        ensures misses { result.misses ≡ 0 }
+    {
         DiskFiles {
             rt,
             load_faults: 0,
@@ -42,22 +46,15 @@ fn load_fault(kind: ErrorKind) -> LoadFault {
     }
 }
 
-// What an error of the system means for a save that has changed nothing yet.
-fn save_fault(kind: ErrorKind) -> SaveFault {
-    match kind {
-        ErrorKind::OutOfMemory => SaveFault::NoMemory,
-        _ => SaveFault::Failed,
-    }
-}
-
-// All that a reader gives, in at most so many bytes.
+// All that a reader gives, in at most so many bytes. It is asked for at most one byte more.
 fn read_up_to<T: Read>(alloc: Global, reader: &mut T, limit: u64) -> Result<Vec<u8>, LoadFault>
     ensures within { IfOk result (λ bytes. vec_len bytes ≤ limit) }
 {
     let mut bytes = Vec::new(alloc);
     let mut piece = [0u8; 4096];
     for _ in 0..u64::MAX {
-        let count = match reader.read(&mut piece) {
+        let wanted = (limit - bytes.len() as u64).saturating_add(1).min(4096) as usize;
+        let count = match reader.read(&mut piece[..wanted]) {
             Ok(count) => count,
             Err(e) => {
                 if e.kind() == ErrorKind::Interrupted {
@@ -95,17 +92,6 @@ fn read_file<R: rt::Files>(
     }
 }
 
-// Writes over the file at a path.
-fn write_file<R: rt::Files>(rt: &R, name: &str, bytes: &[u8]) -> Result<(), SaveFault> {
-    match fs::create(rt, name) {
-        Ok(file) => match write_whole(&mut StdSink::new(file), bytes) {
-            Ok(()) => Ok(()),
-            Err(_) => Err(SaveFault::Failed),
-        },
-        Err(e) => Err(save_fault(e.kind())),
-    }
-}
-
 impl<'a, R: rt::Files> Files for DiskFiles<'a, R> {
     ghost told = { λ _ _. Unknown };
 
@@ -127,8 +113,8 @@ impl<'a, R: rt::Files> Files for DiskFiles<'a, R> {
         loaded
     }
 
-    fn save(&mut self, _alloc: Global, name: &str, bytes: &[u8]) -> Result<(), SaveFault> {
-        let saved = write_file(self.rt, name, bytes);
+    fn save(&mut self, alloc: Global, name: &str, bytes: &[u8]) -> Result<(), SaveFault> {
+        let saved = whole_save::save(self.rt, alloc, name, bytes);
         if let Err(SaveFault::Failed) = saved {
             self.save_faults = self.save_faults.saturating_add(1);
         }

@@ -4,7 +4,7 @@
 //! their faults, so no caller can meet a failure of the outside unless a count rose. `mem_files` and
 //! `mem_sink` are the two in memory, which tell their contents and fail the calls that their maker lists.
 //! `disk_files` and `std_sink` are the thin edge over the files of a runtime and the writers of std, which
-//! tell no contents.
+//! tell no contents; `whole_save` puts a new file in the place of an old one.
 #![tactic(auto)]
 
 mod disk_files;
@@ -13,6 +13,7 @@ mod mem_files;
 mod mem_sink;
 mod sink;
 mod std_sink;
+mod whole_save;
 
 pub use disk_files::DiskFiles;
 pub use files::{Files, LoadFault, SaveFault};

@@ -1,6 +1,4 @@
--- conditions, as terms are added
-pub mod ConditionLemmas
--- what is left of a search that finds, node by node
+-- what is left of a search, node by node
 pub mod TrackLemmas
 -- behind a split, and at the beginning
 pub mod SplitLemmas
@@ -15,7 +13,6 @@ pub mod TurningLemmas
 -- answers
 pub mod AnswerLemmas
 -- passed on to the crates above
-pub use Rattle.wy_check.proofs as wy_check_proofs
 pub use Rattle.wy_prove_writable.proofs as wy_prove_writable_proofs
 pub use Rattle.wy_prove_leaves.proofs.wy_search_laws_proofs as wy_search_laws_proofs
 pub use Rattle.wy_prove_leaves.proofs.wy_search_spec_proofs as wy_search_spec_proofs

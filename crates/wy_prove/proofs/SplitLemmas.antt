@@ -1,25 +1,25 @@
--- What is left of a search that finds behind a split, and at its beginning.
+-- What is left of a search behind a split, and at its beginning.
 use Rattle.std.proofs.Common.{◌≡◌, ℕ, List, [], ◌∷◌, ◌++◌, Bool, true, false, Option, Some, refl, sym, subst, append_assoc}
 use Rattle.wy_facts.specs.Schema.{only_if}
 use Rattle.wy_term.specs.Term.{Term}
 use Rattle.wy_term.specs.Condition.{Entry, Condition}
-use Rattle.wy_prove_rounds.specs.wy_check_spec.judge.Node.{Node, added, denied_one, first_node}
+use Rattle.wy_prove_rounds.specs.wy_check_spec.judge.Node.{Node, is_atom, added, denied_one, first_node}
 use Rattle.wy_cert.specs.Steps.{Written, split}
-use Rattle.wy_prove_rounds.specs.wy_check_spec.valid.Ranges.{may_split}
 use Rattle.wy_prove_rounds.specs.wy_check_spec.valid.Validity.{IsValid}
 use Rattle.wy_prove_leaves.specs.wy_search_spec.Splitting.{next_atom}
 use Rattle.wy_prove_leaves.specs.wy_search_spec.Expansion.{Spot, with_node}
-use Rattle.wy_prove_leaves.specs.wy_search_spec.Tree.{next, splits, first_spot}
+use Rattle.wy_prove_leaves.specs.wy_search_spec.Tree.{Verdict, next, splits, first_spot}
 use Rattle.wy_prove_writable.proofs.wy_check_laws_proofs.sound_lemmas.NodeLemmas.{IsSortedNode, added_sorted, denied_sorted, first_sorted}
 use Rattle.wy_prove_leaves.proofs.wy_search_laws_proofs.closing_lemmas.Closing.{IsFoldedNode, sorted_both}
 use Rattle.wy_prove_leaves.proofs.wy_search_laws_proofs.closing_lemmas.FoldedLemmas.{added_folded, denied_folded, first_folded}
-use Rattle.wy_prove_leaves.proofs.wy_search_laws_proofs.closing_lemmas.NameLemmas.{near_self, near_added, near_denied, splits_near}
-use Rattle.wy_prove_leaves.specs.wy_search_laws.rounds.Leaves.{IsSortedThroughout, IsFoldedThroughout, begins, left, right}
+use Rattle.wy_prove_leaves.proofs.wy_search_laws_proofs.closing_lemmas.NameLemmas.{near_self, near_added, near_denied}
+use Rattle.wy_prove_leaves.specs.wy_search_laws.rounds.Leaves.{IsSortedThroughout, IsFoldedThroughout}
+use Rattle.wy_prove_leaves.proofs.wy_search_laws_proofs.ends_lemmas.AtomLemmas.{next_is_atom}
 use Rattle.wy_prove_leaves.proofs.wy_search_laws_proofs.rounds_lemmas.SearchLemmas.{IsFit, sorted_atoms, folded_atoms, folded_formulas, formulas_folded, next_fit}
 use Rattle.wy_prove_rounds.specs.wy_prove_drafts.Progress.{Progress}
 use Rattle.wy_prove_rounds.proofs.NodeLemmas.{folded_node, sorted_node}
 use Rattle.wy_prove_rounds.specs.Rounds.{IsBeside}
-use Rattle.wy_prove.specs.Tracks.{Pair, spots_of, nodes_of, IsFoundFreely, IsLeft}
+use Rattle.wy_prove.specs.Tracks.{Pair, spots_of, nodes_of, EndsWith, IsLeft}
 use Rattle.wy_prove.proofs.TrackLemmas.{at_node, split_by, turned_to}
 
 -- ---- sorted and folded nodes, in both words
@@ -57,39 +57,36 @@ only true x e = refl
 only false x e = absurd cc
 
 -- both sides are left
-pub split_left : (c : Condition) (budget all n : ℕ) (p : Spot) (node : Node) (steps : List Written) (ws : List Pair) (a : Term) → (n ≡ budget → ⊥) → next_atom p.node ≡ Some a → next c.types p ≡ splits (with_node p (added p.node a)) (with_node p (denied_one p.node a)) → may_split node a ≡ true → IsLeft c budget all n steps ((p, node) ∷ ws) → IsLeft c budget all n (steps ++ split a ∷ []) ((with_node p (added p.node a), added node a) ∷ (with_node p (denied_one p.node a), denied_one node a) ∷ ws)
-split_left c budget all n p node steps ws a apart atom is may h =
-    let l = with_node p (added p.node a) in
-    let r = with_node p (denied_one p.node a) in
-    let fit = next_fit p.node a (sorted_node p.node h.beside.0.sorted) (folded_node p.node h.beside.0.folded) atom in
+pub split_left : (c : Condition) (budget : ℕ) (v : Verdict) (n : ℕ) (p : Spot) (node : Node) (steps : List Written) (ws : List Pair) (a : Term) → (n ≡ budget → ⊥) → next_atom p.node ≡ Some a → next c.types p ≡ splits (with_node p (added p.node a)) (with_node p (denied_one p.node a)) → is_atom a ≡ true → IsLeft c budget v n steps ((p, node) ∷ ws) → IsLeft c budget v n (steps ++ split a ∷ []) ((with_node p (added p.node a), added node a) ∷ (with_node p (denied_one p.node a), denied_one node a) ∷ ws)
+split_left c budget v n p node steps ws a apart next_is is atom h =
+    let fit = next_fit p.node a (sorted_node p.node h.beside.0.sorted) (folded_node p.node h.beside.0.folded) next_is in
     record {
-      freely = h.freely;
-      beside = (beside_added c.types p (at_node node) a fit h.beside.0, left p l r h.beside.1 is, (beside_denied c.types p (at_node node) a fit h.beside.0, right p l r h.beside.1 is, h.beside.2));
-      finds = turned_to c budget all n p (spots_of ws) (splits l r) is apart h.finds;
+      beside = (beside_added c.types p (at_node node) a fit h.beside.0, (beside_denied c.types p (at_node node) a fit h.beside.0, h.beside.1));
+      comes = turned_to c budget v n p (spots_of ws) (splits (with_node p (added p.node a)) (with_node p (denied_one p.node a))) is apart h.comes;
       sorted = sorted_both steps (split a ∷ []) h.sorted (fit.0, tt);
       closes = λ more closed_so.
-          let so = h.closes (split a ∷ more) (split_by c.types node (added node a) (denied_one node a) (nodes_of ws) (split a) more (only (may_split node a) (Some (added node a ∷ denied_one node a ∷ [])) may) closed_so) in
+          let so = h.closes (split a ∷ more) (split_by c.types node (added node a) (denied_one node a) (nodes_of ws) (split a) more (only (is_atom a) (Some (added node a ∷ denied_one node a ∷ [])) atom) closed_so) in
           subst (IsValid c) (sym (append_assoc steps (split a ∷ []) more)) so;
     }
 
--- an atom on which the search splits isn't caught in the certificate's node
-pub never_caught : (c : Condition) (budget all n : ℕ) (p : Spot) (node : Node) (steps : List Written) (ws : List Pair) (a : Term) → next_atom p.node ≡ Some a → may_split node a ≡ false → IsLeft c budget all n steps ((p, node) ∷ ws) → ⊥
-never_caught c budget all n p node steps ws a atom never h =
-    let may : may_split node a ≡ true = splits_near p.node node a h.beside.0.near (h.freely p a h.beside.1 atom) in
+-- what the search splits on is an atom
+pub never_apart : (c : Condition) (budget : ℕ) (v : Verdict) (n : ℕ) (p : Spot) (node : Node) (steps : List Written) (ws : List Pair) (a : Term) → next_atom p.node ≡ Some a → is_atom a ≡ false → IsLeft c budget v n steps ((p, node) ∷ ws) → ⊥
+never_apart c budget v n p node steps ws a next_is un h =
+    let atom : is_atom a ≡ true = next_is_atom p.node a h.beside.0.sorted.1 next_is in
     absurd cc
 
 -- ---- the beginning
 
-pub first_left : (c : Condition) (budget all : ℕ) → IsFoundFreely c budget all → IsLeft c budget all 0 [] ((first_spot c, first_node c) ∷ [])
-first_left c budget all h =
-    let sorted = first_sorted c h.sorted in
-    let folded = first_folded c (formulas_folded c.hyps h.folded.0) h.folded.1 in
+pub first_left : (c : Condition) (budget : ℕ) (v : Verdict) → EndsWith c budget v → IsLeft c budget v 0 [] ((first_spot c, first_node c) ∷ [])
+first_left c budget v h =
+    let sorted = first_sorted c h.formed.sorted in
+    let folded = first_folded c (formulas_folded c.hyps h.formed.folded.0) h.formed.folded.1 in
     let beside : IsBeside c.types (first_spot c) (at_node (first_node c)) = record {
-      entries = h.sorted.types;
-      closed = h.closed;
+      entries = h.formed.sorted.types;
+      closed = h.formed.closed;
       sorted = sorted_throughout (first_node c) sorted;
       folded = folded_throughout (first_node c) folded;
       draft = sorted_throughout (first_node c) sorted;
       near = near_self (first_node c);
     } in
-    record { freely = h.freely; beside = (beside, begins, tt); finds = h.verdict; sorted = tt; closes = λ more so. so 1 }
+    record { beside = (beside, tt); comes = h.verdict; sorted = tt; closes = λ more so. so 1 }

@@ -1,8 +1,9 @@
--- What is left of a search that finds, node by node.
+-- What is left of a search, node by node.
 use Rattle.std.proofs.Common.{◌≡◌, ◌∙◌, ◌+◌, ℕ, zero, suc, List, [], ◌∷◌, ◌++◌, Bool, true, false, cond, eqb, ◌||◌, Option, Some, inl, inr, refl, sym, ap, subst, arith, append_assoc, append-nil}
 use Rattle.std.proofs.lemmas.Bool.{ne_eqb, eq-eqb}
 use Rattle.wy_prove_leaves.proofs.wy_search_laws_proofs.closing_lemmas.Closing.{sorted_both}
 use Rattle.wy_lemmas.proofs.Choices.{or_true}
+use Rattle.wy_lemmas.proofs.Options.{some_same}
 use Rattle.wy_term.specs.Condition.{Entry, Condition}
 use Rattle.wy_prove_rounds.specs.wy_check_spec.judge.Node.{Node}
 use Rattle.wy_cert.specs.Steps.{Written}
@@ -16,9 +17,9 @@ use Rattle.wy_prove_leaves.specs.wy_search_spec.Tree.{Next, Why, closed, stays_o
 use Rattle.wy_prove_writable.specs.wy_check_laws.sound.Sortedness.{AreSortedSteps}
 use Rattle.wy_prove_rounds.specs.wy_prove_drafts.Progress.{Progress, Leads, Goes, Ends}
 use Rattle.wy_prove_leaves.specs.wy_search_laws.closing.AtLeast.{IsNear}
-use Rattle.wy_prove_leaves.specs.wy_search_laws.rounds.Leaves.{IsLeaf, IsSortedThroughout, expands}
+use Rattle.wy_prove_leaves.specs.wy_search_laws.rounds.Leaves.{IsLeaf, IsSortedThroughout}
 use Rattle.wy_prove_rounds.specs.Rounds.{IsBeside}
-use Rattle.wy_prove.specs.Tracks.{Pair, spots_of, nodes_of, AreClosedBy, Finds, IsLeft}
+use Rattle.wy_prove.specs.Tracks.{Pair, IsFound, spots_of, nodes_of, AreClosedBy, ComesTo, IsLeft}
 
 -- ---- steps that close nodes
 
@@ -82,20 +83,20 @@ turn_on : (budget n : ℕ) (x y : Option Verdict) → (n ≡ budget → ⊥) →
 turn_on budget n x y apart = ap (λ (b : Bool). cond b x y) (ne_eqb n budget apart)
 
 -- one turn of it
-turned : (c : Condition) (budget all n : ℕ) (p : Spot) (ps : List Spot) → (n ≡ budget → ⊥) → Finds c budget all n (p ∷ ps) → (turns : ℕ) × (follows (next c.types p) n p ps (λ k qs. searched c.types budget turns k qs) ≡ Some (found all))
-turned c budget all n p ps apart h = by h.0 h.1
+turned : (c : Condition) (budget : ℕ) (v : Verdict) (n : ℕ) (p : Spot) (ps : List Spot) → (n ≡ budget → ⊥) → ComesTo c budget v n (p ∷ ps) → (turns : ℕ) × (follows (next c.types p) n p ps (λ k qs. searched c.types budget turns k qs) ≡ Some v)
+turned c budget v n p ps apart h = by h.0 h.1
   where
-    by : (turns : ℕ) → searched c.types budget turns n (p ∷ ps) ≡ Some (found all) → (t : ℕ) × (follows (next c.types p) n p ps (λ k qs. searched c.types budget t k qs) ≡ Some (found all))
+    by : (turns : ℕ) → searched c.types budget turns n (p ∷ ps) ≡ Some v → (t : ℕ) × (follows (next c.types p) n p ps (λ k qs. searched c.types budget t k qs) ≡ Some v)
     by zero e = absurd cc
     by (suc t) e = (t, sym (turn_on budget n (Some spent) (follows (next c.types p) n p ps (λ k qs. searched c.types budget t k qs)) apart) ∙ e)
 
 -- what becomes of the first node
-pub turned_to : (c : Condition) (budget all n : ℕ) (p : Spot) (ps : List Spot) (x : Next) → next c.types p ≡ x → (n ≡ budget → ⊥) → Finds c budget all n (p ∷ ps) → (turns : ℕ) × (follows x n p ps (λ k qs. searched c.types budget turns k qs) ≡ Some (found all))
-turned_to c budget all n p ps x is apart h =
-    let t = turned c budget all n p ps apart h in
+pub turned_to : (c : Condition) (budget : ℕ) (v : Verdict) (n : ℕ) (p : Spot) (ps : List Spot) (x : Next) → next c.types p ≡ x → (n ≡ budget → ⊥) → ComesTo c budget v n (p ∷ ps) → (turns : ℕ) × (follows x n p ps (λ k qs. searched c.types budget turns k qs) ≡ Some v)
+turned_to c budget v n p ps x is apart h =
+    let t = turned c budget v n p ps apart h in
     (t.0, sym (ap (λ (y : Next). follows y n p ps (λ k qs. searched c.types budget t.0 k qs)) is) ∙ t.1)
 
-spent_never : (c : Condition) (budget all n : ℕ) (p : Spot) (ps : List Spot) → n ≡ budget → Finds c budget all n (p ∷ ps) → ⊥
+spent_never : (c : Condition) (budget all n : ℕ) (p : Spot) (ps : List Spot) → n ≡ budget → ComesTo c budget (found all) n (p ∷ ps) → ⊥
 spent_never c budget all n p ps is h = by h.0 h.1
   where
     by : (turns : ℕ) → searched c.types budget turns n (p ∷ ps) ≡ Some (found all) → ⊥
@@ -104,11 +105,23 @@ spent_never c budget all n p ps is h = by h.0 h.1
         let f : Some spent ≡ Some (found all) = sym (ap (λ (b : Bool). cond b (Some spent) (follows (next c.types p) n p ps (λ k qs. searched c.types budget t k qs))) (eq-eqb n budget is)) ∙ e in
         absurd cc
 
-open_never : (c : Condition) (budget all n : ℕ) (p : Spot) (ps : List Spot) (why : Why) → next c.types p ≡ stays_open why → (n ≡ budget → ⊥) → Finds c budget all n (p ∷ ps) → ⊥
-open_never c budget all n p ps why is apart h = let t = turned_to c budget all n p ps (stays_open why) is apart h in absurd (by t.0 t.1)
+open_never : (c : Condition) (budget all n : ℕ) (p : Spot) (ps : List Spot) (why : Why) → next c.types p ≡ stays_open why → (n ≡ budget → ⊥) → ComesTo c budget (found all) n (p ∷ ps) → ⊥
+open_never c budget all n p ps why is apart h = let t = turned_to c budget (found all) n p ps (stays_open why) is apart h in absurd (by t.0 t.1)
   where
     by : (turns : ℕ) → follows (stays_open why) n p ps (λ k qs. searched c.types budget turns k qs) ≡ Some (found all) → ⊥
     by turns e = absurd cc
+
+-- where the search finds, this can't be
+unless_found : (c : Condition) (budget : ℕ) (v : Verdict) (n : ℕ) (ps : List Spot) → ((all : ℕ) → ComesTo c budget (found all) n ps → ⊥) → ComesTo c budget v n ps → IsFound v → ⊥
+unless_found c budget v n ps never h is = never is.0 (subst (λ (w : Verdict). ComesTo c budget w n ps) is.1 h)
+
+-- no node is left
+ends_found : (c : Condition) (budget : ℕ) (v : Verdict) (n : ℕ) → ComesTo c budget v n [] → IsFound v
+ends_found c budget v n h = by h.0 h.1
+  where
+    by : (turns : ℕ) → searched c.types budget turns n [] ≡ Some v → IsFound v
+    by zero e = absurd cc
+    by (suc t) e = (n, some_same v (found n) (sym e))
 
 -- ---- nodes beside one another
 
@@ -128,15 +141,14 @@ abbrev pub at_node : Node → Progress
 at_node node = record { steps = []; node = node }
 
 -- the node is closed in both
-pub leaf_left : (c : Condition) (budget all n m : ℕ) (p : Spot) (d e : Progress) (ws : List Pair) → (n ≡ budget → ⊥) → m ≡ n + 1 → next c.types p ≡ closed → Ends c.types d e → IsLeft c budget all n d.steps ((p, d.node) ∷ ws) → IsLeft c budget all m e.steps ws
-leaf_left c budget all n m p d e ws apart count is ends h =
-    let rest = turned_to c budget all n p (spots_of ws) closed is apart h.finds in
+pub leaf_left : (c : Condition) (budget : ℕ) (v : Verdict) (n m : ℕ) (p : Spot) (d e : Progress) (ws : List Pair) → (n ≡ budget → ⊥) → m ≡ n + 1 → next c.types p ≡ closed → Ends c.types d e → IsLeft c budget v n d.steps ((p, d.node) ∷ ws) → IsLeft c budget v m e.steps ws
+leaf_left c budget v n m p d e ws apart count is ends h =
+    let rest = turned_to c budget v n p (spots_of ws) closed is apart h.comes in
     let one_more : suc n ≡ m = omega (arith, count) in
     let whole : e.steps ≡ d.steps ++ (ends.more ++ ends.last ∷ []) = ends.written in
     record {
-      freely = h.freely;
-      beside = h.beside.2;
-      finds = (rest.0, subst (λ (k : ℕ). searched c.types budget rest.0 k (spots_of ws) ≡ Some (found all)) one_more rest.1);
+      beside = h.beside.1;
+      comes = (rest.0, subst (λ (k : ℕ). searched c.types budget rest.0 k (spots_of ws) ≡ Some v) one_more rest.1);
       sorted = subst AreSortedSteps (sym whole)
           (sorted_both d.steps (ends.more ++ ends.last ∷ []) h.sorted (sorted_both ends.more (ends.last ∷ []) (sorted_leads c.types d.node ends.middle ends.more ends.leads) (ends.sorted, tt)));
       closes = λ more closed_so.
@@ -149,11 +161,10 @@ leaf_left c budget all n m p d e ws apart count is ends h =
         ap (λ (xs : List Written). xs ++ more) is ∙ (append_assoc a (b ++ s ∷ []) more ∙ ap (λ (xs : List Written). a ++ xs) (append_assoc b (s ∷ []) more))
 
 -- steps lead to a node beside the one to which the search goes on
-pub round_left : (c : Condition) (budget all n : ℕ) (p q : Spot) (d e : Progress) (ws : List Pair) → (n ≡ budget → ⊥) → next c.types p ≡ goes_on q → Goes c.types d e → IsBeside c.types q e → IsLeft c budget all n d.steps ((p, d.node) ∷ ws) → IsLeft c budget all n e.steps ((q, e.node) ∷ ws)
-round_left c budget all n p q d e ws apart is goes beside h = record {
-  freely = h.freely;
-  beside = (same_beside c.types q e (at_node e.node) refl beside, expands p q h.beside.1 is, h.beside.2);
-  finds = turned_to c budget all n p (spots_of ws) (goes_on q) is apart h.finds;
+pub round_left : (c : Condition) (budget : ℕ) (v : Verdict) (n : ℕ) (p q : Spot) (d e : Progress) (ws : List Pair) → (n ≡ budget → ⊥) → next c.types p ≡ goes_on q → Goes c.types d e → IsBeside c.types q e → IsLeft c budget v n d.steps ((p, d.node) ∷ ws) → IsLeft c budget v n e.steps ((q, e.node) ∷ ws)
+round_left c budget v n p q d e ws apart is goes beside h = record {
+  beside = (same_beside c.types q e (at_node e.node) refl beside, h.beside.1);
+  comes = turned_to c budget v n p (spots_of ws) (goes_on q) is apart h.comes;
   sorted = subst AreSortedSteps (sym goes.written) (sorted_both d.steps goes.more h.sorted (sorted_leads c.types d.node e.node goes.more goes.leads));
   closes = λ more closed_so.
       let so = h.closes (goes.more ++ more) (leads_close c.types d.node e.node (nodes_of ws) goes.more more goes.leads closed_so) in
@@ -161,11 +172,14 @@ round_left c budget all n p q d e ws apart is goes beside h = record {
 }
 
 -- nothing is left
-pub none_left : (c : Condition) (budget all n : ℕ) (steps : List Written) → IsLeft c budget all n steps [] → IsValid c steps × AreSortedSteps steps
-none_left c budget all n steps h = (subst (IsValid c) (append-nil steps) (h.closes [] (λ k. refl)), h.sorted)
+pub none_found : (c : Condition) (budget : ℕ) (v : Verdict) (n : ℕ) (steps : List Written) → IsLeft c budget v n steps [] → IsFound v
+none_found c budget v n steps h = ends_found c budget v n h.comes
 
-pub never_spent : (c : Condition) (budget all n : ℕ) (p : Spot) (node : Node) (steps : List Written) (ws : List Pair) → n ≡ budget → IsLeft c budget all n steps ((p, node) ∷ ws) → ⊥
-never_spent c budget all n p node steps ws is h = spent_never c budget all n p (spots_of ws) is h.finds
+pub none_left : (c : Condition) (budget : ℕ) (v : Verdict) (n : ℕ) (steps : List Written) → IsLeft c budget v n steps [] → IsValid c steps × AreSortedSteps steps
+none_left c budget v n steps h = (subst (IsValid c) (append-nil steps) (h.closes [] (λ k. refl)), h.sorted)
 
-pub never_open : (c : Condition) (budget all n : ℕ) (p : Spot) (node : Node) (steps : List Written) (ws : List Pair) (why : Why) → next c.types p ≡ stays_open why → (n ≡ budget → ⊥) → IsLeft c budget all n steps ((p, node) ∷ ws) → ⊥
-never_open c budget all n p node steps ws why is apart h = open_never c budget all n p (spots_of ws) why is apart h.finds
+pub never_spent : (c : Condition) (budget : ℕ) (v : Verdict) (n : ℕ) (p : Spot) (node : Node) (steps : List Written) (ws : List Pair) → n ≡ budget → IsLeft c budget v n steps ((p, node) ∷ ws) → IsFound v → ⊥
+never_spent c budget v n p node steps ws is h = unless_found c budget v n (p ∷ spots_of ws) (λ all g. spent_never c budget all n p (spots_of ws) is g) h.comes
+
+pub never_open : (c : Condition) (budget : ℕ) (v : Verdict) (n : ℕ) (p : Spot) (node : Node) (steps : List Written) (ws : List Pair) (why : Why) → next c.types p ≡ stays_open why → (n ≡ budget → ⊥) → IsLeft c budget v n steps ((p, node) ∷ ws) → IsFound v → ⊥
+never_open c budget v n p node steps ws why is apart h = unless_found c budget v n (p ∷ spots_of ws) (λ all g. open_never c budget all n p (spots_of ws) why is apart g) h.comes

@@ -8,11 +8,12 @@ use Rattle.wy_cert.specs.declared.step.Cert.{Cert}
 use Rattle.wy_cert.specs.Steps.{steps_of, NamesItsTerms}
 use Rattle.wy_prove_rounds.specs.wy_check_spec.valid.Validity.{IsValid}
 use Rattle.wy_prove_leaves.specs.wy_search_spec.Expansion as search
+use Rattle.wy_prove_leaves.specs.wy_search_spec.Tree.{Verdict}
 use Rattle.wy_prove_rounds.specs.wy_search.StatedSeen.{seen_spot, IsSpot}
 use Rattle.wy_prove_writable.specs.wy_check_laws.sound.Sortedness.{AreSortedSteps}
 use Rattle.wy_prove_rounds.specs.wy_prove_drafts.Progress.{Progress}
 use Rattle.wy_prove_rounds.specs.wy_prove_drafts.Draft.{IsDraft, seen_draft}
-use Rattle.wy_prove.specs.Tracks.{Pair, IsLeft}
+use Rattle.wy_prove.specs.Tracks.{Pair, IsFound, IsLeft}
 use Rattle.wy_prove.specs.declared.walking.Waiting.{Waiting}
 use Rattle.wy_prove.specs.declared.walking.Walk.{Walk}
 use Rattle.wy_prove.specs.declared.walking.Turned.{Turned}
@@ -42,23 +43,25 @@ abbrev pub seen_waiting : (ℕ → Term) → Waiting → Pair
 seen_waiting at w = (seen_spot at w.spot, seen_branch at w.branch)
 
 -- this node is left, with the draft's beside it, and behind it those that wait
-abbrev pub StandsAt : Condition → ℕ → ℕ → ℕ → search.Spot → Progress → List Pair → Type 0
-StandsAt c budget all n p d ws = IsLeft c budget all n d.steps ((p, d.node) ∷ ws)
+abbrev pub StandsAt : Condition → ℕ → Verdict → ℕ → search.Spot → Progress → List Pair → Type 0
+StandsAt c budget v n p d ws = IsLeft c budget v n d.steps ((p, d.node) ∷ ws)
 
-abbrev pub IsWalkLeft : Condition → ℕ → ℕ → (ℕ → Term) → Walk → Type 0
-IsWalkLeft c budget all at w = StandsAt c budget all w.leaves (seen_spot at w.spot) (seen_draft at w.draft) (map (seen_waiting at) w.waiting.items)
+abbrev pub IsWalkLeft : Condition → ℕ → Verdict → (ℕ → Term) → Walk → Type 0
+IsWalkLeft c budget v at w = StandsAt c budget v w.leaves (seen_spot at w.spot) (seen_draft at w.draft) (map (seen_waiting at) w.waiting.items)
 
--- the certificate is valid, and of terms of sorted parts
-abbrev pub IsWhole : Condition → Cert → Type 0
-IsWhole c cert = IsValid c (steps_of cert) × AreSortedSteps (steps_of cert)
+-- the search finds, and the certificate is valid and of terms of sorted parts
+pub record IsWhole (c : Condition) (v : Verdict) (cert : Cert) : Type 0 where
+  pub found : IsFound v
+  pub valid : IsValid c (steps_of cert)
+  pub sorted : AreSortedSteps (steps_of cert)
 
--- the walk doesn't stop without a certificate
-abbrev pub IsTurnedTo : Condition → ℕ → ℕ → (ℕ → Term) → Turned → Type 0
-IsTurnedTo c budget all at (turned.Ends cert) = IsWhole c cert
-IsTurnedTo c budget all at turned.Stops = ⊥
-IsTurnedTo c budget all at (turned.GoesOn w) = IsWalkLeft c budget all at w
+-- the walk stops without a certificate only where the search doesn't find
+abbrev pub IsTurnedTo : Condition → ℕ → Verdict → (ℕ → Term) → Turned → Type 0
+IsTurnedTo c budget v at (turned.Ends cert) = IsWhole c v cert
+IsTurnedTo c budget v at turned.Stops = IsFound v → ⊥
+IsTurnedTo c budget v at (turned.GoesOn w) = IsWalkLeft c budget v at w
 
--- there is a certificate, valid and of terms of sorted parts
-abbrev pub IsFinished : Condition → Option Cert → Type 0
-IsFinished c None = ⊥
-IsFinished c (Some cert) = IsWhole c cert
+-- there is a certificate exactly where the search finds, valid and of terms of sorted parts
+abbrev pub IsFinished : Condition → Verdict → Option Cert → Type 0
+IsFinished c v None = IsFound v → ⊥
+IsFinished c v (Some cert) = IsWhole c v cert

@@ -5,26 +5,19 @@
 //! certificate's node has more than the search's, since a fact adds its whole formula. A closed node is closed in the draft by `leaves`:
 //! by the few steps that `wy_prove_explaining` lists (`plans` writes them, with literals by `numbers`), or where these don't close it, by those
 //! that always do (`wy_prove_leaves`). A node that goes on does so by `rounds`: a round of the search with its steps
-//! (`wy_prove_rounds`), or, where the search's own tree makes no certificate, half a round (`manner`, `halves`), of which `binding`
-//! leaves out facts that bind a name, `facts` and `products` list facts and products of bounds, and `additions` writes the steps. In the
-//! end the certificate is judged by the checker (`judgement`), so that it is answered only where it is valid.
+//! (`wy_prove_rounds`). That what was written is a valid certificate is proved of the walk; `answering` asks besides whether it can be
+//! written to a file.
 //!
 //! The search itself is passed on, so that who needs both names this crate alone.
 #![tactic(auto)]
 
-mod additions;
-mod binding;
-mod facts;
-mod halves;
-mod judgement;
+mod answering;
 mod leaves;
-mod manner;
 mod numbers;
 mod plans;
-mod products;
 mod rounds;
 mod turning;
 mod walking;
 
-pub use judgement::certified;
+pub use answering::certified;
 pub use wy_prove_rounds::{Carried, OpenLeaf, Verdict, Why, nothing_carried, search};

@@ -1,7 +1,6 @@
 //! How a node goes on that is open and splits on nothing.
 ghost use Rattle.std.specs.Prelude.{◌≡◌, ◌<◌, ◌||◌, nat_lt, IfOk, IfSome, OnOk, length};
 ghost use Rattle.wy_prove.specs.Turns.{IsRound};
-ghost use Rattle.wy_prove.specs.declared.manner.Manner.TheVariants.{AsSearched};
 ghost use Rattle.wy_prove_rounds.specs.wy_prove_drafts.Draft.{IsDraft, seen_draft};
 ghost use Rattle.wy_facts.specs.Membership.{AreTypesBelow};
 ghost use Rattle.wy_facts.specs.Seen.{Stays};
@@ -11,8 +10,6 @@ ghost use Rattle.wy_term.specs.Condition.{condition_of};
 ghost use Rattle.wy_term.specs.Nodes.{tree_at};
 ghost use Rattle.wy_prove_rounds.specs.Rounds.{IsBeside};
 
-use crate::halves::half_round;
-use crate::manner::Manner;
 use wy_check_nodes::Branch;
 use wy_prove_rounds::{Draft, Spot, write_round};
 use wy_term::{Cond, NoMemory, Terms};
@@ -44,8 +41,9 @@ fn is_more(old: Size, new: Size) -> bool
     old.pending < new.pending
 }
 
-// A round of the search and its steps, at most two on a path, if it adds something.
-fn whole_round(
+/// A round of the search at a node and its steps written to a draft, at most two on a path, and the node behind it, if it adds
+/// something. Older numbers name what they named.
+pub fn round(
     terms: &mut Terms,
     cond: &Cond,
     draft: &mut Draft,
@@ -69,28 +67,5 @@ fn whole_round(
         Ok(Some(more))
     } else {
         Ok(None)
-    }
-}
-
-/// A round at a node and its steps written to a draft, in this manner, and the node behind it, if the node goes on. Older numbers name
-/// what they named.
-pub fn round(
-    terms: &mut Terms,
-    cond: &Cond,
-    manner: Manner,
-    draft: &mut Draft,
-    spot: Spot,
-) -> Result<Option<Spot>, NoMemory>
-    requires types { AreTypesBelow (length terms.old) cond.now }
-    requires draft { IsDraft terms.old draft.old }
-    requires spot { IsSpot terms.old spot }
-    ensures value { (e : Ending) → manner ≡ AsSearched → IsBeside (condition_of terms.old cond.now).types (seen_spot (tree_at terms.old) spot) (seen_draft (tree_at terms.old) draft.old) → IfOk result (IsRound (condition_of terms.old cond.now).types (seen_spot (tree_at terms.old) spot) e (tree_at terms.new) (seen_draft (tree_at terms.old) draft.old) (seen_draft (tree_at terms.new) draft.new)) }
-    ensures spot { IfOk result (λ o. IfSome o (IsSpot terms.new)) }
-    ensures draft { OnOk result (IsDraft terms.new draft.new) }
-    ensures stays { Stays terms.old terms.new }
-{
-    match manner {
-        Manner::AsSearched => whole_round(terms, cond, draft, spot),
-        Manner::InHalves => half_round(terms, cond, draft, spot),
     }
 }

@@ -1,10 +1,9 @@
 //! The walk through the tree of the search.
 ghost use Rattle.std.specs.Prelude.{◌≡◌, ◌<◌, ◌≤◌, ◌+◌, ◌∷◌, ℕ, All, List, IfOk, IfSome, OnOk, length, map};
 ghost use Rattle.wy_cert.specs.Steps.{steps_of, written, NamesItsTerms};
-ghost use Rattle.wy_prove.specs.Tracks.{IsFoundFreely, IsLeft};
+ghost use Rattle.wy_prove.specs.Tracks.{EndsWith, IsLeft};
 ghost use Rattle.wy_prove.specs.Turns.{IsJudged, IsLeafOver, IsNext};
 ghost use Rattle.wy_prove.specs.Walks.{seen_waiting, AreWaiting, IsFinished, IsTurned, IsTurnedTo, IsWalk, IsWalkLeft, StandsAt};
-ghost use Rattle.wy_prove.specs.declared.manner.Manner.TheVariants.{AsSearched};
 ghost use Rattle.wy_prove.specs.declared.turning.Next.TheVariants as next;
 ghost use Rattle.wy_prove_rounds.specs.wy_prove_drafts.Draft.{IsDraft, seen_draft};
 ghost use Rattle.wy_facts.specs.Membership.{AreTypesBelow};
@@ -12,13 +11,13 @@ ghost use Rattle.wy_facts.specs.Seen.{Stays};
 ghost use Rattle.wy_prove_rounds.specs.wy_check_spec.judge.Node.{added, denied_one};
 ghost use Rattle.wy_check_nodes.specs.Seen.{seen_branch, IsBranch};
 ghost use Rattle.wy_prove_leaves.specs.wy_search_spec.Expansion as search;
+ghost use Rattle.wy_prove_leaves.specs.wy_search_spec.Tree.{Verdict};
 ghost use Rattle.wy_prove_rounds.specs.wy_search.StatedSeen.{IsSpot};
 ghost use Rattle.wy_term.specs.Condition.{Condition, condition_of};
 ghost use Rattle.wy_term.specs.Nodes.{Plain, tree_at};
 ghost use Rattle.wy_term.specs.Term.{Term};
 
 use crate::leaves::close_leaf;
-use crate::manner::Manner;
 use crate::rounds::round;
 use crate::turning::{Leaf, Next, what_follows};
 use std::collections::VecDeque;
@@ -56,7 +55,7 @@ pub enum Turned {
 fn first_walk(terms: &Terms, cond: &Cond) -> Result<Walk, NoMemory>
     requires hyps { All (λ h. h < length terms.now) cond.now.hyps.items }
     requires goal { cond.now.goal < length terms.now }
-    ensures value { (budget all : ℕ) → IsFoundFreely (condition_of terms.now cond.now) budget all → IfOk result (IsWalkLeft (condition_of terms.now cond.now) budget all (tree_at terms.now)) }
+    ensures value { (budget : ℕ) (v : Verdict) → EndsWith (condition_of terms.now cond.now) budget v → IfOk result (IsWalkLeft (condition_of terms.now cond.now) budget v (tree_at terms.now)) }
     ensures leaves { IfOk result (λ w. w.leaves ≡ 0) }
     ensures walk { IfOk result (IsWalk terms.now) }
 {
@@ -87,7 +86,7 @@ fn ended(draft: Draft) -> Cert
 
 // The node that waits is the present one.
 fn resumed(leaves: u64, draft: Draft, next: Waiting, waiting: VecDeque<Waiting>) -> Walk
-    ensures value { (c : Condition) (budget all : ℕ) (at : ℕ → Term) → IsLeft c budget all leaves (map (written (tree_at draft.terms)) draft.steps.items) (seen_waiting at next ∷ map (seen_waiting at) waiting.items) → IsWalkLeft c budget all at result }
+    ensures value { (c : Condition) (budget : ℕ) (v : Verdict) (at : ℕ → Term) → IsLeft c budget v leaves (map (written (tree_at draft.terms)) draft.steps.items) (seen_waiting at next ∷ map (seen_waiting at) waiting.items) → IsWalkLeft c budget v at result }
     ensures leaves { result.leaves ≡ leaves }
     ensures walk { (nodes : List Plain) → IsDraft nodes draft → AreWaiting nodes (next ∷ waiting.items) → IsWalk nodes result }
 {
@@ -112,7 +111,7 @@ fn resumed(leaves: u64, draft: Draft, next: Waiting, waiting: VecDeque<Waiting>)
 // Behind a closed node: the next one that waits is the present one.
 fn close(leaves: u64, budget: u64, draft: Draft, waiting: VecDeque<Waiting>) -> Turned
     requires leaves { leaves < budget }
-    ensures value { (c : Condition) (all : ℕ) (at : ℕ → Term) → IsLeft c budget all (leaves + 1) (map (written (tree_at draft.terms)) draft.steps.items) (map (seen_waiting at) waiting.items) → IsTurnedTo c budget all at result }
+    ensures value { (c : Condition) (v : Verdict) (at : ℕ → Term) → IsLeft c budget v (leaves + 1) (map (written (tree_at draft.terms)) draft.steps.items) (map (seen_waiting at) waiting.items) → IsTurnedTo c budget v at result }
     ensures turned { (nodes : List Plain) → IsDraft nodes draft → AreWaiting nodes waiting.items → IsTurned nodes budget result }
 {
     let mut waiting = waiting;
@@ -133,7 +132,7 @@ fn on_shut(
     requires leaves { leaves < budget }
     requires draft { IsDraft terms.now draft }
     requires waiting { AreWaiting terms.now waiting.items }
-    ensures value { (c : Condition) (all : ℕ) (p : search.Spot) → StandsAt c budget all leaves p (seen_draft (tree_at terms.now) draft) (map (seen_waiting (tree_at terms.now)) waiting.items) → IsJudged (tree_at terms.now) p next.Shut → IfOk result (IsTurnedTo c budget all (tree_at terms.now)) }
+    ensures value { (c : Condition) (v : Verdict) (p : search.Spot) → StandsAt c budget v leaves p (seen_draft (tree_at terms.now) draft) (map (seen_waiting (tree_at terms.now)) waiting.items) → IsJudged (tree_at terms.now) p next.Shut → IfOk result (IsTurnedTo c budget v (tree_at terms.now)) }
     ensures turned { IfOk result (IsTurned terms.now budget) }
 {
     let mut draft = draft;
@@ -157,7 +156,7 @@ fn on_leaf(
     requires draft { IsDraft terms.old draft }
     requires waiting { AreWaiting terms.old waiting.items }
     requires leaf { IsLeafOver terms.old leaf.now }
-    ensures value { (c : Condition) (all : ℕ) (p : search.Spot) → StandsAt c budget all leaves p (seen_draft (tree_at terms.old) draft) (map (seen_waiting (tree_at terms.old)) waiting.items) → IsJudged (tree_at terms.old) p (next.Closes leaf.now) → IfOk result (IsTurnedTo c budget all (tree_at terms.new)) }
+    ensures value { (c : Condition) (v : Verdict) (p : search.Spot) → StandsAt c budget v leaves p (seen_draft (tree_at terms.old) draft) (map (seen_waiting (tree_at terms.old)) waiting.items) → IsJudged (tree_at terms.old) p (next.Closes leaf.now) → IfOk result (IsTurnedTo c budget v (tree_at terms.new)) }
     ensures turned { IfOk result (IsTurned terms.new budget) }
     ensures stays { Stays terms.old terms.new }
 {
@@ -221,7 +220,7 @@ fn fork(
     requires atom { atom < length terms.now }
     requires left { IsSpot terms.now left }
     requires right { IsSpot terms.now right }
-    ensures value { (c : Condition) (budget all : ℕ) (p : search.Spot) → leaves < budget → StandsAt c budget all leaves p (seen_draft (tree_at terms.now) draft) (map (seen_waiting (tree_at terms.now)) waiting.items) → IsJudged (tree_at terms.now) p (next.Splits atom left right) → IfOk result (IsTurnedTo c budget all (tree_at terms.now)) }
+    ensures value { (c : Condition) (budget : ℕ) (v : Verdict) (p : search.Spot) → leaves < budget → StandsAt c budget v leaves p (seen_draft (tree_at terms.now) draft) (map (seen_waiting (tree_at terms.now)) waiting.items) → IsJudged (tree_at terms.now) p (next.Splits atom left right) → IfOk result (IsTurnedTo c budget v (tree_at terms.now)) }
     ensures turned { (budget : ℕ) → leaves ≤ budget → IfOk result (IsTurned terms.now budget) }
 {
     let mut draft = draft;
@@ -249,7 +248,6 @@ fn fork(
 fn on_round(
     terms: &mut Terms,
     cond: &Cond,
-    manner: Manner,
     leaves: u64,
     draft: Draft,
     waiting: VecDeque<Waiting>,
@@ -259,12 +257,12 @@ fn on_round(
     requires draft { IsDraft terms.old draft }
     requires waiting { AreWaiting terms.old waiting.items }
     requires spot { IsSpot terms.old spot }
-    ensures value { (c : Condition) (budget all : ℕ) (p : search.Spot) → c.types ≡ (condition_of terms.old cond.now).types → manner ≡ AsSearched → leaves < budget → StandsAt c budget all leaves p (seen_draft (tree_at terms.old) draft) (map (seen_waiting (tree_at terms.old)) waiting.items) → IsJudged (tree_at terms.old) p (next.Stays spot) → IfOk result (IsTurnedTo c budget all (tree_at terms.new)) }
+    ensures value { (c : Condition) (budget : ℕ) (v : Verdict) (p : search.Spot) → c.types ≡ (condition_of terms.old cond.now).types → leaves < budget → StandsAt c budget v leaves p (seen_draft (tree_at terms.old) draft) (map (seen_waiting (tree_at terms.old)) waiting.items) → IsJudged (tree_at terms.old) p (next.Stays spot) → IfOk result (IsTurnedTo c budget v (tree_at terms.new)) }
     ensures turned { (budget : ℕ) → leaves ≤ budget → IfOk result (IsTurned terms.new budget) }
     ensures stays { Stays terms.old terms.new }
 {
     let mut draft = draft;
-    match round(terms, cond, manner, &mut draft, spot)? {
+    match round(terms, cond, &mut draft, spot)? {
         Some(more) => Ok(Turned::GoesOn(Walk {
             leaves,
             draft,
@@ -282,7 +280,6 @@ fn behind(
     terms: &mut Terms,
     cond: &Cond,
     budget: u64,
-    manner: Manner,
     leaves: u64,
     draft: Draft,
     waiting: VecDeque<Waiting>,
@@ -293,7 +290,7 @@ fn behind(
     requires draft { IsDraft terms.old draft }
     requires waiting { AreWaiting terms.old waiting.items }
     requires next { IsNext terms.old next }
-    ensures value { (c : Condition) (all : ℕ) (p : search.Spot) → c.types ≡ (condition_of terms.old cond.now).types → manner ≡ AsSearched → StandsAt c budget all leaves p (seen_draft (tree_at terms.old) draft) (map (seen_waiting (tree_at terms.old)) waiting.items) → IsJudged (tree_at terms.old) p next → IfOk result (IsTurnedTo c budget all (tree_at terms.new)) }
+    ensures value { (c : Condition) (v : Verdict) (p : search.Spot) → c.types ≡ (condition_of terms.old cond.now).types → StandsAt c budget v leaves p (seen_draft (tree_at terms.old) draft) (map (seen_waiting (tree_at terms.old)) waiting.items) → IsJudged (tree_at terms.old) p next → IfOk result (IsTurnedTo c budget v (tree_at terms.new)) }
     ensures turned { IfOk result (IsTurned terms.new budget) }
     ensures stays { Stays terms.old terms.new }
 {
@@ -301,22 +298,16 @@ fn behind(
         Next::Shut => on_shut(terms, budget, leaves, draft, waiting),
         Next::Closes(leaf) => on_leaf(terms, budget, leaves, draft, waiting, &leaf),
         Next::Splits(atom, left, right) => fork(terms, leaves, draft, waiting, atom, left, right),
-        Next::Stays(spot) => on_round(terms, cond, manner, leaves, draft, waiting, spot),
+        Next::Stays(spot) => on_round(terms, cond, leaves, draft, waiting, spot),
     }
 }
 
 // One turn.
-fn turn(
-    terms: &mut Terms,
-    cond: &Cond,
-    budget: u64,
-    manner: Manner,
-    walk: Walk,
-) -> Result<Turned, NoMemory>
+fn turn(terms: &mut Terms, cond: &Cond, budget: u64, walk: Walk) -> Result<Turned, NoMemory>
     requires types { AreTypesBelow (length terms.old) cond.now }
     requires leaves { walk.leaves ≤ budget }
     requires walk { IsWalk terms.old walk }
-    ensures value { (c : Condition) (all : ℕ) → c.types ≡ (condition_of terms.old cond.now).types → manner ≡ AsSearched → IsWalkLeft c budget all (tree_at terms.old) walk → IfOk result (IsTurnedTo c budget all (tree_at terms.new)) }
+    ensures value { (c : Condition) (v : Verdict) → c.types ≡ (condition_of terms.old cond.now).types → IsWalkLeft c budget v (tree_at terms.old) walk → IfOk result (IsTurnedTo c budget v (tree_at terms.new)) }
     ensures turned { IfOk result (IsTurned terms.new budget) }
     ensures stays { Stays terms.old terms.new }
 {
@@ -330,28 +321,22 @@ fn turn(
         return Ok(Turned::Stops);
     }
     let next = what_follows(terms, spot)?;
-    behind(terms, cond, budget, manner, leaves, draft, waiting, next)
+    behind(terms, cond, budget, leaves, draft, waiting, next)
 }
 
-/// A certificate by the steps of the search, whose tree is gone through in this manner, up to so many leaves, where each node can be
-/// closed. As the search does, there is one wherever the search finds at this budget, if the condition's formulas are sorted and folded and
-/// a certificate may split where the search does. Older numbers name what they named.
-pub fn written_by(
-    terms: &mut Terms,
-    cond: &Cond,
-    budget: u64,
-    manner: Manner,
-) -> Result<Option<Cert>, NoMemory>
+/// A certificate by the steps of the search, whose tree is gone through up to so many leaves. There is one exactly where the search
+/// finds at this budget, and it is valid, if the condition's formulas are sorted and folded. Older numbers name what they named.
+pub fn written_by(terms: &mut Terms, cond: &Cond, budget: u64) -> Result<Option<Cert>, NoMemory>
     requires hyps { All (λ h. h < length terms.old) cond.now.hyps.items }
     requires goal { cond.now.goal < length terms.old }
     requires types { AreTypesBelow (length terms.old) cond.now }
-    ensures value { (all : ℕ) → IsFoundFreely (condition_of terms.old cond.now) budget all → manner ≡ AsSearched → IfOk result (IsFinished (condition_of terms.old cond.now)) }
+    ensures value { (v : Verdict) → EndsWith (condition_of terms.old cond.now) budget v → IfOk result (IsFinished (condition_of terms.old cond.now) v) }
     ensures names { IfOk result (λ o. IfSome o NamesItsTerms) }
     ensures stays { Stays terms.old terms.new }
 {
     let mut walk = first_walk(terms, cond)?;
     for _turn in 0..u64::MAX {
-        match turn(terms, cond, budget, manner, walk)? {
+        match turn(terms, cond, budget, walk)? {
             Turned::Ends(cert) => return Ok(Some(cert)),
             Turned::Stops => return Ok(None),
             Turned::GoesOn(next) => walk = next,

@@ -10,7 +10,7 @@ use Rattle.wy_search_laws.specs.wy_check_spec.judge.Node.{Node, added, denied_on
 use Rattle.wy_cert.specs.Steps.{Written, split, shut, chain, clash, sum_of, cut, inst, wit, fact, prod}
 use Rattle.wy_search_laws.specs.wy_check_spec.valid.Literals.{is_shut}
 use Rattle.wy_search_laws.specs.wy_check_spec.valid.Sums.{summed, is_refuting, cut_of}
-use Rattle.wy_search_laws.specs.wy_check_spec.valid.Ranges.{may_split, instance_stated, witness_stated}
+use Rattle.wy_search_laws.specs.wy_check_spec.valid.Ranges.{instance_stated, witness_stated}
 use Rattle.wy_search_laws.specs.wy_check_spec.valid.Membership.{fact_among}
 use Rattle.wy_search_laws.specs.wy_check_spec.valid.Products.{product_stated}
 use Rattle.wy_search_laws.specs.wy_check_spec.valid.Validity.{closed, left_with, left_with_one, chain_stated, is_clash, after}
@@ -110,7 +110,7 @@ cut_more a b d None e = absurd cc
 
 -- a step that leads to one node alone keeps what was there
 pub step_more : (types : List Entry) (a b : Node) (s : Written) → after types a s ≡ Some (b ∷ []) → IsAtLeast a b
-step_more types a b (split f) e = absurd (two_never (may_split a f) (added a f) (denied_one a f) b e)
+step_more types a b (split f) e = absurd (two_never (is_atom f) (added a f) (denied_one a f) b e)
 step_more types a b shut e = absurd (closed_never (is_shut a) b e)
 step_more types a b (chain ts) e = all_more a b (chain_stated a.literals ts) e
 step_more types a b (clash i other) e = absurd (clash_never (is_clash a.literals i other) b e)

@@ -2,9 +2,8 @@
 use Rattle.std.specs.Prelude.{◌≡◌, List, [], ◌∷◌, ◌++◌, Bool, true, false, Some, None}
 use Rattle.wy_term.specs.Term.{Term}
 use Rattle.wy_term.specs.Condition.{Entry}
-use Rattle.wy_search_laws.specs.wy_check_spec.judge.Node.{Node}
+use Rattle.wy_search_laws.specs.wy_check_spec.judge.Node.{Node, is_atom}
 use Rattle.wy_cert.specs.Steps.{Written, split}
-use Rattle.wy_search_laws.specs.wy_check_spec.valid.Ranges.{may_split}
 use Rattle.wy_search_laws.specs.wy_check_spec.valid.Validity.{after, closed}
 use Rattle.wy_search_laws.specs.wy_check_laws.sound.Sortedness.{IsSortedStep}
 
@@ -47,7 +46,7 @@ abbrev pub Closes : List Entry → Written → Progress → Progress → Bool �
 Closes types s old new true = (after types old.node s ≡ closed) × (new ≡ record { steps = old.steps ++ s ∷ []; node = old.node })
 Closes types s old new false = (after types old.node s ≡ None) × (new ≡ old)
 
--- the node may split on the atom, and that was written, the node as it is; or it may not, and nothing was
+-- the formula is an atom, and the split on it was written, the node as it is; or it isn't, and nothing was
 abbrev pub Splits : Term → Progress → Progress → Bool → Type 0
-Splits a old new true = (may_split old.node a ≡ true) × (new ≡ record { steps = old.steps ++ split a ∷ []; node = old.node })
-Splits a old new false = (may_split old.node a ≡ false) × (new ≡ old)
+Splits a old new true = (is_atom a ≡ true) × (new ≡ record { steps = old.steps ++ split a ∷ []; node = old.node })
+Splits a old new false = (is_atom a ≡ false) × (new ≡ old)

@@ -11,7 +11,7 @@ use crate::draft::Draft;
 use crate::putting::put;
 use wy_cert::Step;
 use wy_check_nodes::{is_refuting, is_shut};
-use wy_check_splits::{is_clash, may_split};
+use wy_check_splits::{is_atom, is_clash};
 use wy_term::{NoMemory, Terms};
 
 /// Writes `shut`, where the node can't be, and says whether it did.
@@ -65,8 +65,8 @@ pub fn close_by_sum(
     Ok(true)
 }
 
-/// Writes `split` on an atom, where the node may split on it, and says whether it did. The node stays as it is: it is for the caller
-/// to go on with the first of the two, and then with the second.
+/// Writes `split` on a formula, where that is an atom, and says whether it did. The node stays as it is: it is for the caller to go on
+/// with the first of the two, and then with the second.
 pub fn write_split(terms: &Terms, draft: &mut Draft, atom: u32) -> Result<bool, NoMemory>
     requires draft { IsDraft terms.now draft.old }
     requires atom { atom < length terms.now }
@@ -74,7 +74,7 @@ pub fn write_split(terms: &Terms, draft: &mut Draft, atom: u32) -> Result<bool, 
     ensures draft { OnOk result (IsDraft terms.now draft.new) }
     ensures branch { draft.new.branch ≡ draft.old.branch }
 {
-    if !may_split(terms, &draft.branch, atom)? {
+    if !is_atom(terms, atom) {
         return Ok(false);
     }
     put(terms, draft, Step::Split(atom))?;

@@ -4,10 +4,9 @@ use Rattle.wy_term.specs.Term.{DataKind, null_kind, bool_kind, int_kind, array_k
 use Rattle.wy_term.specs.Condition.{Entry}
 use Rattle.wy_term_subst.specs.Names.{any_symbol}
 use Rattle.wy_prove_drafts.specs.wy_check_spec.judge.Node.{Literal, Node, has_literal, added}
-use Rattle.wy_prove_drafts.specs.wy_check_spec.valid.Ranges.{any_in_literals, any_in_formulas}
 use Rattle.wy_prove_drafts.specs.wy_check_spec.valid.Membership.{fact_among}
 use Rattle.wy_prove_drafts.specs.wy_search_spec.Expansion.{with_some, kind_says, is_whole_kind, in_equation, everything, kind_fact}
-use Rattle.wy_prove_drafts.specs.wy_search_laws.closing.AtLeast.{IsAtLeast, IsNear}
+use Rattle.wy_prove_drafts.specs.wy_search_laws.closing.AtLeast.{IsAtLeast, any_in_literals, any_in_formulas, IsNear}
 use Rattle.wy_prove_drafts.proofs.wy_search_laws_proofs.closing_lemmas.AtLeastLemmas.{more_added}
 use Rattle.wy_prove_drafts.proofs.wy_search_laws_proofs.closing_lemmas.NameLemmas.{IsNamedIn, any_literal_there, any_more, near_self}
 use Rattle.wy_prove_drafts.proofs.wy_search_laws_proofs.rounds_lemmas.KindLemmas.{IsUntold, untold, null_said, bool_said, int_said, all_said, kind_fact_is, null_near, bool_near, int_near, all_near}

@@ -6,7 +6,7 @@ use Rattle.wy_check_laws.specs.wy_check_spec.judge.Node.{Node, added, denied_one
 use Rattle.wy_cert.specs.Steps.{Written, split, shut, chain, clash, sum_of, cut, inst, wit, fact, prod, children}
 use Rattle.wy_check_laws.specs.wy_check_spec.valid.Literals.{only_if, is_shut}
 use Rattle.wy_check_laws.specs.wy_check_spec.valid.Sums.{summed, is_refuting, cut_of}
-use Rattle.wy_check_laws.specs.wy_check_spec.valid.Ranges.{may_split, instance_stated, witness_stated}
+use Rattle.wy_check_laws.specs.wy_check_spec.valid.Ranges.{instance_stated, witness_stated}
 use Rattle.wy_check_laws.specs.wy_check_spec.valid.Membership.{fact_among}
 use Rattle.wy_check_laws.specs.wy_check_spec.valid.Products.{product_stated}
 use Rattle.wy_check_laws.specs.wy_check_spec.valid.Validity.{chain_stated, is_clash, closed, left_with, left_with_one, after, or_bad, first_bad_by}
@@ -29,7 +29,7 @@ behind n None f h = tt
 behind n (Some x) f h = h x
 
 leads : (types : List Entry) (node : Node) (s : Written) → LeadTo (children s) (after types node s)
-leads types node (split f) = where_met 2 (may_split node f) (Some (added node f ∷ denied_one node f ∷ [])) refl
+leads types node (split f) = where_met 2 (is_atom f) (Some (added node f ∷ denied_one node f ∷ [])) refl
 leads types node shut = where_met 0 (is_shut node) closed refl
 leads types node (chain ts) = behind 1 (chain_stated node.literals ts) (left_with node) (λ fs. refl)
 leads types node (clash i other) = behind 0 (is_clash node.literals i other) (λ b. only_if b closed) (λ b. where_met 0 b closed refl)

@@ -19,8 +19,8 @@ pub fn is_writable(terms: &Terms, copies: &[Option<u32>], term: u32, sort: Sort)
     copies[term as usize].is_some() && is_of_sort(terms, term, sort)
 }
 
-/// Whether a term of a number or a datum can be written.
-pub fn is_term(terms: &Terms, copies: &[Option<u32>], term: u32) -> bool
+// Whether a term of a number or a datum can be written.
+fn is_term(terms: &Terms, copies: &[Option<u32>], term: u32) -> bool
     requires term { term < length copies.now }
     requires tells { TellWritable terms.now copies.now }
     ensures exactly { IsTrue result ↔ IsWritableTerm (tree_at terms.now term) }

@@ -12,7 +12,7 @@ mod law;
 mod listed;
 mod numbers;
 mod ranges;
-pub mod sorted;
+mod sorted;
 mod testing;
 
 pub use law::valid_certificates_are_trees;

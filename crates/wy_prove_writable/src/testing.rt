@@ -5,7 +5,7 @@ ghost use Rattle.wy_check_laws.specs.reread.Writable.{AreWritable, IsWritable};
 ghost use Rattle.wy_term.specs.Nodes.{tree_at};
 ghost use Rattle.wy_prove_writable.specs.Listed.{TellWritable};
 
-use crate::arguments::{are_arguments, are_terms, is_term, is_writable};
+use crate::arguments::{are_arguments, are_terms, is_writable};
 use crate::listed::writable_terms;
 use crate::numbers::{are_factors, is_multiplier, is_optional, is_place};
 use crate::sorted::Sort;
@@ -28,7 +28,7 @@ fn is_step_writable(terms: &Terms, copies: &[Option<u32>], step: &Step) -> bool
         Step::Cut(d, pairs) => {
             is_multiplier(*d) && *d >= 2 && !pairs.is_empty() && are_factors(pairs)
         }
-        Step::Inst(i, t) => is_place(*i) && is_term(terms, copies, *t),
+        Step::Inst(i, t) => is_place(*i) && is_writable(terms, copies, *t, Sort::Int),
         Step::Wit(i) => is_place(*i),
         Step::Fact(schema, all) => {
             is_place(*schema)
@@ -36,7 +36,9 @@ fn is_step_writable(terms: &Terms, copies: &[Option<u32>], step: &Step) -> bool
                 && !all.is_empty()
                 && are_arguments(terms, copies, all)
         }
-        Step::Prod(i, j, p) => is_place(*i) && is_place(*j) && is_term(terms, copies, *p),
+        Step::Prod(i, j, p) => {
+            is_place(*i) && is_place(*j) && is_writable(terms, copies, *p, Sort::Int)
+        }
     }
 }
 

@@ -6,4 +6,3 @@ pub mod RoundLemmas
 pub mod ProductLemmas
 pub mod ExpandedLemmas
 pub mod SearchLemmas
-pub mod CaughtLemmas

@@ -1,3 +1,2 @@
 -- what public contracts cite
 pub mod Leaves
-pub mod Caught

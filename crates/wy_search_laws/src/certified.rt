@@ -2,7 +2,7 @@
 ghost use Rattle.wy_search_laws.specs.rounds.Leaves.{FoundIsCertified};
 
 /// Each condition that the search finds within some budget has a valid certificate: if its formulas are sorted and folded and
-/// its named types closed, and if a certificate may split where the search does.
+/// its named types closed.
 pub fn found_conditions_are_certified()
     ensures certified { FoundIsCertified }
 {}

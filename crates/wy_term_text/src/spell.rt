@@ -10,4 +10,4 @@ mod read;
 mod root;
 mod work;
 
-pub use read::{read_formula, read_term};
+pub use read::{read_formula, read_int_term, read_term};

@@ -1,7 +1,7 @@
 -- The conditions that a program owes, as numbers of terms.
 use Rattle.std.proofs.Common.{◌≡◌, ◌∙◌, ◌<◌, ◌≤◌, ℕ, List, [], ◌∷◌, All, length, map, refl, sym, ap, subst, arith}
 use Rattle.std.proofs.lemmas.List.{length-map}
-use Rattle.std.proofs.lemmas.List.Elements.{All-weaker}
+use Rattle.std.proofs.lemmas.List.Elements.{All-cons, All-nil, All-weaker}
 use Rattle.wy_check.specs.Within.{IsWithin}
 use Rattle.wy_top_answers.proofs.wy_vc_laws_proofs.shown_lemmas.TruthLemmas.{premises_met}
 use Rattle.wy_vc.specs.wy_vc_spec.Limits as limits
@@ -12,9 +12,13 @@ use Rattle.wy_vc.specs.wy_vc_spec.Values.{Setting}
 use Rattle.wy_core.specs.CoreTree.{Core}
 use Rattle.wy_core.specs.Types.{Ty}
 use Rattle.wy_top_answers.specs.wy_sound_terms.formed.OwedConditions.{owed_conditions, with_types}
+use Rattle.wy_prove.specs.Answers.{IsFormedThroughout}
+use Rattle.wy_prove.specs.wy_search_laws.rounds.Leaves.{AreFoldedFormulas, IsFoldedCondition}
+use Rattle.wy_top_answers.specs.wy_vc_laws.folded.FoldedConditions.{AllFolded, AreFoldedThroughout, IsFoldedThroughout}
 use Rattle.wy_top_answers.specs.wy_vc_laws.shown.Certified.{AreFormed}
 use Rattle.wy_term.specs.Condition.{Condition, condition_of}
 use Rattle.wy_term.specs.Nodes.{Plain}
+use Rattle.wy_term.specs.Term.{Term}
 use Rattle.wy_term.specs.declared.cond.Cond.{Cond}
 use Rattle.wy_vc.proofs.ConditionLemmas.{few_within}
 use Rattle.wy_vc.specs.Told.{IsCond, IsEntry, Told, seen_cond, told}
@@ -48,6 +52,20 @@ conditions_are core flow nodes cs is =
 
 pub are_formed : (core : Core ℕ) (flow : List Ty) (nodes : List Plain) (cs : List Cond) → map (seen_cond nodes) cs ≡ told_by core flow → AreFormed (map (condition_of nodes) cs)
 are_formed core flow nodes cs is = subst AreFormed (sym (conditions_are core flow nodes cs is)) (premises_met core flow)
+
+is_folded : (c : Condition) → IsFoldedThroughout c → IsFoldedCondition c
+is_folded c h = (formulas_folded c.hyps h.hyps, h.goal)
+  where
+    formulas_folded : (fs : List Term) → AllFolded fs → AreFoldedFormulas fs
+    formulas_folded [] g = tt
+    formulas_folded (f ∷ fs) g = (g.0, formulas_folded fs g.1)
+
+-- each is sorted and folded
+pub formed_each : (nodes : List Plain) (cs : List Cond) → AreFormed (map (condition_of nodes) cs) → AreFoldedThroughout (map (condition_of nodes) cs) → All (λ c. IsFormedThroughout (condition_of nodes c)) cs
+formed_each nodes [] formed folded = All-nil (λ (c : Cond). IsFormedThroughout (condition_of nodes c))
+formed_each nodes (c ∷ cs) formed folded =
+    All-cons (λ (d : Cond). IsFormedThroughout (condition_of nodes d)) c cs
+    (record { sorted = formed.0.sorted; closed = formed.0.are_closed; folded = is_folded (condition_of nodes c) folded.0 }) (formed_each nodes cs formed.1 folded.1)
 
 -- ---- their number
 

@@ -12,15 +12,11 @@ use Rattle.wy_top_answers.specs.wy_check_laws.sound.Sortedness.{AreSortedSteps}
 use Rattle.wy_term.specs.Condition.{Condition}
 use Rattle.wy_term.specs.declared.cond.Cond.{Cond}
 use Rattle.wy_top_answers.specs.wy_check_spec.valid.Validity.{IsValid}
-use Rattle.wy_prove.specs.Answers.{AnswersWhatIsFound}
-use Rattle.wy_prove.specs.wy_search_laws.rounds.Leaves.{AreFoldedFormulas, IsFoldedCondition}
-use Rattle.wy_top_answers.specs.wy_vc_laws.folded.FoldedConditions.{AllFolded, AreFoldedThroughout, IsFoldedThroughout}
+use Rattle.wy_prove.specs.Answers.{AnswersWhatIsFound, HasUnwritable, IsFormedThroughout}
 use Rattle.wy_prove.specs.wy_search_spec.Tree as search
-use Rattle.wy_top_answers.specs.wy_vc_laws.shown.Certified.{AreFormed, IsFormed}
-use Rattle.wy_term.specs.Term.{Term}
 use Rattle.wy_top.specs.Found.{AreFor, Begin, IsMore, IsOneMore, IsOwn, LacksOne}
 use Rattle.wy_top.specs.Known.{AreKnown, End, IsKnown, Known, end_of, found, is_found, spent, stays_open, supplied}
-use Rattle.wy_top.specs.Proofs.{IsLeftOut, LeavesOut}
+use Rattle.wy_top.specs.Proofs.{LeavesOut}
 use Rattle.wy_top.specs.Seen.{known, seen_end}
 use Rattle.wy_top.specs.declared.verdict.End.{End as CodeEnd}
 use Rattle.wy_top.specs.declared.verdict.Verdict.{Verdict}
@@ -116,6 +112,10 @@ found_turn of conds vs i n c d v certs more each lt at there number same so h =
     (subst (λ (ds : Certificates). AreFor 1 (take i (map of conds) ++ of c ∷ []) (take i (map known vs) ++ known v ∷ []) ds) (sym h.more_are)
     (for_push 1 n (take i (map of conds)) (take i (map known vs)) (of c) (known v) certs h.own whole so own)))
 
+-- the condition with a place in a list is formed
+pub formed_at : (of : Cond → Condition) (conds : List Cond) (i : ℕ) (c : Cond) → All (λ x. IsFormedThroughout (of x)) conds → i < length conds → c ≡ get_or conds i c → IsFormedThroughout (of c)
+formed_at of conds i c h lt at = subst (λ (x : Cond). IsFormedThroughout (of x)) (sym at) (h i c lt)
+
 -- one that was found and got none was found
 pub found_lacks : {E : Type 0} (e : CodeEnd) (Q : Type 0) (r : Result (Option Certs) E) → is_found (seen_end e) ≡ true → IfOk r (λ (o : Option Certs). o ≡ None → Q) → IfOk r (λ (o : Option Certs). o ≡ None → (is_found (seen_end e) ≡ true) × Q)
 found_lacks e Q (Ok o) is h = λ none. (is, h none)
@@ -132,28 +132,20 @@ lacks_at budget of (e ∷ conds) (w ∷ vs) (suc i) c d v lc lv at there same is
 
 -- ---- what lacks a certificate
 
-is_folded : (c : Condition) → IsFoldedThroughout c → IsFoldedCondition c
-is_folded c h = (formulas_folded c.hyps h.hyps, h.goal)
-  where
-    formulas_folded : (fs : List Term) → AllFolded fs → AreFoldedFormulas fs
-    formulas_folded [] g = tt
-    formulas_folded (f ∷ fs) g = (g.0, formulas_folded fs g.1)
-
 -- the search found it, with so many leaves
 found_with : (c : Condition) (budget : ℕ) (verdict : search.Verdict) → search.IsVerdict c budget verdict → is_found (end_of verdict) ≡ true → (leaves : ℕ) × search.IsVerdict c budget (search.found leaves)
 found_with c budget (search.found leaves) is e = (leaves, is)
 found_with c budget (search.open_leaf leaf why literals) is e = absurd cc
 found_with c budget search.spent is e = absurd cc
 
-left_one : (c : Condition) (budget n : ℕ) (k : Known) → IsKnown [] budget n c k → IsFormed c → IsFoldedThroughout c → is_found k.end ≡ true → AnswersWhatIsFound c budget None → IsLeftOut c
-left_one c budget n k known formed folded is lacks free =
+left_one : (c : Condition) (budget n : ℕ) (k : Known) → IsKnown [] budget n c k → is_found k.end ≡ true → AnswersWhatIsFound c budget None → HasUnwritable c
+left_one c budget n k known is lacks =
     let e = known.end in
-    let f = found_with c budget e.verdict e.searched (subst (λ (x : End). is_found x ≡ true) e.is is) in
-    lacks formed.sorted formed.are_closed (is_folded c folded) free f.0 f.1
+    lacks (found_with c budget e.verdict e.searched (subst (λ (x : End). is_found x ≡ true) e.is is))
 
 -- of the conditions of a program one is left out, where one that was found got none
-pub left_out : (budget n : ℕ) (cs : List Condition) (ks : List Known) → AreKnown [] budget n cs ks → AreFormed cs → AreFoldedThroughout cs → LacksOne budget cs ks → LeavesOut cs ks
-left_out budget n [] ks known formed folded lacks = absurd lacks
-left_out budget n (c ∷ cs) [] known formed folded lacks = absurd lacks
-left_out budget n (c ∷ cs) (k ∷ ks) known formed folded (inl h) = inl (h.0, left_one c budget n k known.0 formed.0 folded.0 h.0 h.1)
-left_out budget n (c ∷ cs) (k ∷ ks) known formed folded (inr h) = inr (left_out budget (n + 1) cs ks known.1 formed.1 folded.1 h)
+pub left_out : (budget n : ℕ) (cs : List Condition) (ks : List Known) → AreKnown [] budget n cs ks → LacksOne budget cs ks → LeavesOut cs ks
+left_out budget n [] ks known lacks = absurd lacks
+left_out budget n (c ∷ cs) [] known lacks = absurd lacks
+left_out budget n (c ∷ cs) (k ∷ ks) known (inl h) = inl (h.0, left_one c budget n k known.0 h.0 h.1)
+left_out budget n (c ∷ cs) (k ∷ ks) known (inr h) = inr (left_out budget (n + 1) cs ks known.1 h)

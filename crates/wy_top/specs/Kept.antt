@@ -1,6 +1,7 @@
 -- What the code keeps of a program and of what it owes.
 use Rattle.std.specs.Prelude.{◌≡◌, ◌≤◌, ℕ, List, All, length, map}
 use Rattle.wy_check.specs.Within.{IsWithin}
+use Rattle.wy_prove.specs.Answers.{IsFormedThroughout}
 use Rattle.wy_top.specs.Acceptance.{Acceptance, AreVerdicts}
 use Rattle.wy_top.specs.Programs.{Program, conditions_of}
 use Rattle.wy_top.specs.declared.accepting.Accepted.{Accepted}
@@ -43,12 +44,13 @@ pub record IsKept (o : Owed) : Type 0 where
 abbrev pub judged_program : Judged → Program
 judged_program j = record { core = core_of j.typed; flow = flow_of j.typed }
 
--- there is a verdict on each condition, there are few of them, each names its own terms, and the conditions' numbers are those of their terms
+-- there is a verdict on each condition, there are few of them, each names its own terms, the conditions' numbers are those of their terms, and their formulas are sorted and folded
 pub record AreEach (j : Judged) : Type 0 where
   pub each : length j.verdicts.items ≡ length j.conds.list.items
   pub few : length j.conds.list.items ≤ most_conditions
   pub named : NameTerms j.verdicts.items
   pub within : All (IsWithin (length j.conds.terms)) j.conds.list.items
+  pub formed : All (λ c. IsFormedThroughout (condition_of j.conds.terms c)) j.conds.list.items
 
 -- these numbers have the conditions of the program
 pub record SpellsConditions (p : Program) (j : Judged) : Type 0 where

@@ -9,7 +9,6 @@ use Rattle.wy_cert.specs.File.{ReadsFile}
 use Rattle.wy_cert.specs.Steps.{Certificates}
 use Rattle.wy_cert.specs.writing.Text.{file_text}
 use Rattle.wy_prove.specs.Answers.{HasUnwritable}
-use Rattle.wy_prove.specs.wy_search_laws.rounds.Leaves.{SplitsFreely}
 use Rattle.wy_term.specs.Condition.{Condition}
 use Rattle.wy_top.specs.Owed.{Owes, told_by}
 use Rattle.wy_top.specs.Found.{AreFor}
@@ -32,15 +31,11 @@ pub record IsJudged (name bytes : List ℕ) (p : Program) (budget : ℕ) (a : An
 
 -- ---- no certificate
 
--- the search splits the condition where a certificate may not, or else there is a valid certificate of it that can't be written
-abbrev pub IsLeftOut : Condition → Type 0
-IsLeftOut c = SplitsFreely c → HasUnwritable c
-
--- of these conditions, of which this is known, one was found and is left out
+-- of these conditions, of which this is known, one was found, and a valid certificate of it can't be written
 abbrev pub LeavesOut : List Condition → List Known → Type 0
 LeavesOut [] ks = ⊥
 LeavesOut (c ∷ cs) [] = ⊥
-LeavesOut (c ∷ cs) (k ∷ ks) = ((is_found k.end ≡ true) × IsLeftOut c) ⊎ LeavesOut cs ks
+LeavesOut (c ∷ cs) (k ∷ ks) = ((is_found k.end ≡ true) × HasUnwritable c) ⊎ LeavesOut cs ks
 
 -- the search of some condition closed all leaves, and no certificate that can be written was made of them
 pub record IsUncertified (p : Program) (budget : ℕ) (a : Answer) : Type 0 where

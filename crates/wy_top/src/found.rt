@@ -1,7 +1,7 @@
 //! Certificates for the conditions that were found.
 ghost use Rattle.std.specs.Prelude.{◌≡◌, ◌<◌, ◌^◌, ℕ, All, None, true, length, map, IfOk, IfSome};
 ghost use Rattle.wy_cert.specs.Steps.{certificates_of, NameTheirTerms};
-ghost use Rattle.wy_prove.specs.Answers.{AnswersWhatIsFound};
+ghost use Rattle.wy_prove.specs.Answers.{AnswersWhatIsFound, IsFormedThroughout};
 ghost use Rattle.wy_check.specs.Within.{IsWithin};
 ghost use Rattle.wy_term.specs.Condition.{condition_of};
 ghost use Rattle.wy_term.specs.Nodes.{tree_at};
@@ -16,8 +16,8 @@ use wy_prove::certified;
 use wy_term::{Cond, NoMemory, Terms};
 
 /// A valid certificate for each condition whose search closed all leaves, with its number, from 1, in order; none where one of them gets
-/// none: its search splits where a certificate may not, or the certificate has a name or a number that no file spells. The search goes its
-/// way again, with this budget of leaves, and writes the steps that show each node.
+/// none, since the certificate has a name or a number that no file spells. The search goes its way again, with this budget of leaves, and
+/// writes the steps that show each node.
 pub fn found_certificates(
     alloc: Global,
     terms: &mut Terms,
@@ -28,6 +28,7 @@ pub fn found_certificates(
     requires few { length conds.now < 2 ^ 32 }
     requires each { length verdicts.now ≡ length conds.now }
     requires within { All (IsWithin (length terms.old)) conds.now }
+    requires formed { All (λ c. IsFormedThroughout (condition_of terms.old c)) conds.now }
     ensures certificates { IfOk result (λ o. IfSome o (λ certs. spec.AreFor 1 (map (condition_of terms.old) conds.now) (map known verdicts.now) (certificates_of certs))) }
     ensures named { IfOk result (λ o. IfSome o NameTheirTerms) }
     ensures lacking { IfOk result (λ o. o ≡ None → spec.LacksOne budget (map (condition_of terms.old) conds.now) (map known verdicts.now)) }
@@ -56,6 +57,7 @@ fn with_found(
 ) -> Result<Option<Certs>, NoMemory>
     requires certs { NameTheirTerms certs }
     requires cond { IsWithin (length terms.old) cond.now }
+    requires formed { IsFormedThroughout (condition_of terms.old cond.now) }
     ensures value { IfOk result (λ o. IfSome o (λ more. spec.IsMore number (condition_of terms.old cond.now) (seen_end end.now) (certificates_of certs) (certificates_of more))) }
     ensures named { IfOk result (λ o. IfSome o NameTheirTerms) }
     ensures lacking { IfOk result (λ o. o ≡ None → (is_found (seen_end end.now) ≡ true) × AnswersWhatIsFound (condition_of terms.old cond.now) budget None) }
@@ -78,6 +80,7 @@ fn with_certified(
 ) -> Result<Option<Certs>, NoMemory>
     requires certs { NameTheirTerms certs }
     requires cond { IsWithin (length terms.old) cond.now }
+    requires formed { IsFormedThroughout (condition_of terms.old cond.now) }
     ensures value { IfOk result (λ o. IfSome o (λ more. spec.IsOneMore number (condition_of terms.old cond.now) (certificates_of certs) (certificates_of more))) }
     ensures named { IfOk result (λ o. IfSome o NameTheirTerms) }
     ensures lacking { IfOk result (λ o. o ≡ None → AnswersWhatIsFound (condition_of terms.old cond.now) budget None) }

@@ -118,14 +118,14 @@ line_spells products (chain ts) allowed h = record { kind = verb.Chain; text = a
 line_spells products (clash i other) allowed h = record { kind = verb.Clash; text = decimal i ++ other_text other; begins = record { is = refl }; body = record { first = i; rest = other_text other; second = other; literal = place_at i (other_text other) h.0 (other_heads other); other = is_other other h.1; is = refl } }
 line_spells products (sum_of pairs) allowed h = record { kind = verb.Sum; text = texts pair_text pairs; begins = record { is = refl }; body = record { pairs = pairs; spelled = are_pairs pairs h.1; some = h.0; is = refl } }
 line_spells products (cut d pairs) allowed h = record { kind = verb.Cut; text = decimal d ++ texts pair_text pairs; begins = record { is = refl }; body = record { divisor = d; rest = texts pair_text pairs; pairs = pairs; number = multiplier_at d (texts pair_text pairs) h.0 (no_digit pairs); large = h.1; spelled = are_pairs pairs h.3; some = h.2; is = refl } }
-line_spells products (inst i t) allowed h = record { kind = verb.Inst; text = decimal i ++ (32 ∷ text_of t); begins = record { is = refl }; body = record { first = i; rest = text_of t; term = t; literal = place_at i (32 ∷ text_of t) h.0 refl; spelled = is_term t h.1; is = refl } }
+line_spells products (inst i t) allowed h = record { kind = verb.Inst; text = decimal i ++ (32 ∷ text_of t); begins = record { is = refl }; body = record { first = i; rest = text_of t; term = t; literal = place_at i (32 ∷ text_of t) h.0 refl; spelled = spelled int_sort t h.1; is = refl } }
 line_spells products (wit i) allowed h = record { kind = verb.Wit; text = decimal i; begins = record { is = refl }; body = record { first = i; literal = last_place i h; is = refl } }
 line_spells products (fact n ts) allowed h = record { kind = verb.Fact; text = decimal n ++ (32 ∷ arguments_text ts); begins = record { is = refl }; body = record { schema = n; rest = arguments_text ts; arguments = ts; number = place_at n (32 ∷ arguments_text ts) h.0 refl; small = h.1; spelled = fact_arguments ts h.2 h.3; is = refl } }
 line_spells products (prod i j p) allowed h = record {
   kind = verb.Prod;
   text = decimal i ++ (32 ∷ (decimal j ++ (32 ∷ text_of p)));
   begins = record { is = refl };
-  body = record { first = i; between = decimal j ++ (32 ∷ text_of p); second = j; rest = text_of p; term = p; allowed = allowed refl; literal = place_at i (32 ∷ (decimal j ++ (32 ∷ text_of p))) h.0 refl; other = place_at j (32 ∷ text_of p) h.1 refl; spelled = is_term p h.2; is = refl };
+  body = record { first = i; between = decimal j ++ (32 ∷ text_of p); second = j; rest = text_of p; term = p; allowed = allowed refl; literal = place_at i (32 ∷ (decimal j ++ (32 ∷ text_of p))) h.0 refl; other = place_at j (32 ∷ text_of p) h.1 refl; spelled = spelled int_sort p h.2; is = refl };
 }
 
 -- ---- no line ends in a step
@@ -149,6 +149,9 @@ pairs_inside (p ∷ ps) h = (refl, both_inside (decimal p.0 ++ (32 ∷ decimal p
 
 term_inside : (t : Term) → IsWritableTerm t → AllPass is_inside (text_of t)
 term_inside t h = neat_inside (text_of t) (term_neat t h)
+
+int_inside : (t : Term) → IsWritableAt int_sort t → AllPass is_inside (text_of t)
+int_inside t h = neat_inside (text_of t) (text_neat t int_sort h.1)
 
 more_terms_inside : (ts : List Term) → AreWritableTerms ts → AllPass is_inside (texts more_text ts)
 more_terms_inside [] h = tt
@@ -183,7 +186,7 @@ step_inside (chain ts) h = six 99 104 97 105 110 32 (arguments_text ts) refl ref
 step_inside (clash i other) h = six 99 108 97 115 104 32 (decimal i ++ other_text other) refl refl refl refl refl refl (both_inside (decimal i) (other_text other) (place_inside i h.0) (other_inside other h.1))
 step_inside (sum_of pairs) h = (refl, (refl, (refl, pairs_inside pairs h.1)))
 step_inside (cut d pairs) h = (refl, (refl, (refl, (refl, both_inside (decimal d) (texts pair_text pairs) (multiplier_inside d h.0) (pairs_inside pairs h.3)))))
-step_inside (inst i t) h = (refl, (refl, (refl, (refl, (refl, both_inside (decimal i) (32 ∷ text_of t) (place_inside i h.0) (refl, term_inside t h.1))))))
+step_inside (inst i t) h = (refl, (refl, (refl, (refl, (refl, both_inside (decimal i) (32 ∷ text_of t) (place_inside i h.0) (refl, int_inside t h.1))))))
 step_inside (wit i) h = (refl, (refl, (refl, (refl, place_inside i h))))
 step_inside (fact n ts) h = (refl, (refl, (refl, (refl, (refl, both_inside (decimal n) (32 ∷ arguments_text ts) (place_inside n h.0) (refl, arguments_inside ts h.3))))))
-step_inside (prod i j p) h = (refl, (refl, (refl, (refl, (refl, both_inside (decimal i) (32 ∷ (decimal j ++ (32 ∷ text_of p))) (place_inside i h.0) (refl, both_inside (decimal j) (32 ∷ text_of p) (place_inside j h.1) (refl, term_inside p h.2)))))))
+step_inside (prod i j p) h = (refl, (refl, (refl, (refl, (refl, both_inside (decimal i) (32 ∷ (decimal j ++ (32 ∷ text_of p))) (place_inside i h.0) (refl, both_inside (decimal j) (32 ∷ text_of p) (place_inside j h.1) (refl, int_inside p h.2)))))))

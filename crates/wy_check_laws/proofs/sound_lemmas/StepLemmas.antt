@@ -22,7 +22,7 @@ use Rattle.wy_check_spec.specs.wy_facts.Schema.{fact_of, only_if}
 use Rattle.wy_check_spec.proofs.wy_facts_proofs.TruthLemmas.{facts_are_true}
 use Rattle.wy_check_spec.specs.declared.judge.verdict.Verdict.{Verdict}
 use Rattle.wy_check_spec.specs.declared.judge.verdict.Verdict.TheVariants.{Yes, No, Open}
-use Rattle.wy_check_spec.specs.judge.Node.{Literal, has_literal, Node, added, denied_one, with_formulas}
+use Rattle.wy_check_spec.specs.judge.Node.{Literal, has_literal, Node, is_atom, added, denied_one, with_formulas}
 use Rattle.wy_check_spec.specs.judge.Judgement.{judged}
 use Rattle.wy_check_spec.specs.judge.Told.{AllTold, IsTrueNode}
 use Rattle.wy_check_spec.proofs.judge_lemmas.TruthLemmas.{judges_truly, adds_truly}
@@ -30,7 +30,7 @@ use Rattle.wy_check_spec.specs.wy_cert.Steps.{Written, split, shut, chain, clash
 use Rattle.wy_check_spec.specs.valid.Literals.{literal_at, stands_both_ways, is_no, any_no, is_shut, is_chain, last_of}
 use Rattle.wy_check_spec.specs.valid.Kinds.{clashes_alone, clash_together}
 use Rattle.wy_check_spec.specs.valid.Sums.{summed, is_refuting, cut_of}
-use Rattle.wy_check_spec.specs.valid.Ranges.{Range, as_every, as_exists, of_each, of_one, said, body_at, instance_at, is_int_sort, is_int, instance_stated, numbers_in_literals, numbers_in_formulas, numbers_in_node, witness, witnessed_at, witness_stated, may_split}
+use Rattle.wy_check_spec.specs.valid.Ranges.{Range, as_every, as_exists, of_each, of_one, said, body_at, instance_at, is_int_sort, is_int, instance_stated, numbers_in_literals, numbers_in_formulas, numbers_in_node, witness, witnessed_at, witness_stated}
 use Rattle.wy_check_spec.specs.valid.Membership.{unfolded_at, membership, membership_by, fact_among}
 use Rattle.wy_check_spec.specs.valid.Products.{product_stated}
 use Rattle.wy_check_spec.specs.valid.Validity.{closed, left_with, left_with_one, equality_of, chain_stated, is_clash, after}
@@ -78,9 +78,9 @@ adding_one types node f below e h g holds = adding types node (f ∷ []) below e
 
 -- ---- split
 
-split_leads : (types : List Entry) (node : Node) (f : Term) (below : List Node) → IsSortedNode node → IsFormula f → only_if (may_split node f) (Some (added node f ∷ denied_one node f ∷ [])) ≡ Some below → Leads types node below
+split_leads : (types : List Entry) (node : Node) (f : Term) (below : List Node) → IsSortedNode node → IsFormula f → only_if (is_atom f) (Some (added node f ∷ denied_one node f ∷ [])) ≡ Some below → Leads types node below
 split_leads types node f below h g e =
-    let p = only_some (may_split node f) (Some (added node f ∷ denied_one node f ∷ [])) below e in
+    let p = only_some (is_atom f) (Some (added node f ∷ denied_one node f ∷ [])) below e in
     subst (Leads types node) (some_is (added node f ∷ denied_one node f ∷ []) below p.1)
     (record {
       sorted = (added_sorted node f h g, (denied_sorted node f h g, tt));

@@ -54,10 +54,10 @@ IsWritable (chain ts) = (0 < length ts) × AreWritableTerms ts
 IsWritable (clash i other) = IsPlace i × IsOptional other
 IsWritable (sum_of pairs) = (0 < length pairs) × AreFactors pairs
 IsWritable (cut d pairs) = IsMultiplier d × (2 ≤ d) × (0 < length pairs) × AreFactors pairs
-IsWritable (inst i t) = IsPlace i × IsWritableTerm t
+IsWritable (inst i t) = IsPlace i × IsWritableAt int_sort t
 IsWritable (wit i) = IsPlace i
 IsWritable (fact n ts) = IsPlace n × (n ≤ 16) × (0 < length ts) × AreWritableArguments ts
-IsWritable (prod i j p) = IsPlace i × IsPlace j × IsWritableTerm p
+IsWritable (prod i j p) = IsPlace i × IsPlace j × IsWritableAt int_sort p
 
 abbrev pub AreWritable : List Written → Type 0
 AreWritable [] = Unit {0}

@@ -126,7 +126,7 @@ no_first_bound = owes (Natural (Number (pos 5)) ∷ Natural m ∷ []) (Natural (
 pub record SmallCertificates : Type 0 where
   pub split_valid : first_bad either_way (split (AtMost (Number (pos 1)) k) ∷ sum_of ((1, 1) ∷ (1, 2) ∷ []) ∷ shut ∷ []) ≡ None
   pub split_of_no_atom : first_bad either_way (split (Or (Natural k) (AtMost (Number (pos 1)) k)) ∷ shut ∷ shut ∷ []) ≡ Some 1
-  pub split_of_bound_name : first_bad of_all_below (split (Natural k) ∷ shut ∷ shut ∷ []) ≡ Some 1
+  pub split_of_bound_name : first_bad of_all_below (split (Natural k) ∷ inst 1 j ∷ shut ∷ inst 1 j ∷ shut ∷ []) ≡ None
   pub shut_where_open : first_bad either_way (shut ∷ []) ≡ Some 1
   pub chain_valid : first_bad linked (chain (x ∷ y ∷ z ∷ []) ∷ shut ∷ []) ≡ None
   pub chain_with_a_gap : first_bad linked (chain (x ∷ z ∷ []) ∷ shut ∷ []) ≡ Some 1

@@ -1,14 +1,13 @@
 -- What a quantifier states of one number, and which names a node has.
-use Rattle.std.specs.Prelude.{ℕ, ◌==◌, List, [], ◌∷◌, ◌++◌, Bool, true, false, ◌&&◌, ◌||◌, not, bytes_eq, if◌then◌else◌, Option, Some, None}
+use Rattle.std.specs.Prelude.{ℕ, List, [], ◌∷◌, ◌++◌, Bool, true, false, if◌then◌else◌, Option, Some, None}
 use Rattle.wy_facts.specs.Schema.{only_if}
-use Rattle.wy_lin.specs.wy_term.Term.{Symbol, Term, Of, no_parts, part, leaf, int_name, every, exists}
+use Rattle.wy_lin.specs.wy_term.Term.{Term, Of, no_parts, part, leaf, int_name, every, exists}
 use Rattle.wy_lin.specs.wy_term.Sorts.{Sort, int_sort, val_sort, formula_sort, sort_in}
-use Rattle.wy_lin.specs.wy_term.Scope.{free_names}
 use Rattle.wy_lin.specs.Linear.{◌>>=◌}
 use Rattle.wy_facts.specs.Made.{is_at_most, denial, one_of_three}
-use Rattle.wy_facts.specs.wy_term_subst.Names.{any_symbol, numbers_in, new_number}
+use Rattle.wy_facts.specs.wy_term_subst.Names.{numbers_in, new_number}
 use Rattle.wy_facts.specs.wy_term_subst.Substitution.{substituted}
-use Rattle.wy_check_spec.specs.judge.Node.{Literal, Node, is_atom}
+use Rattle.wy_check_spec.specs.judge.Node.{Literal, Node}
 use Rattle.wy_check_spec.specs.valid.Literals.{literal_at}
 
 -- ---- quantifiers
@@ -87,36 +86,3 @@ witnessed_at holds r x = is_at_most r.lower x ∷ denial (is_at_most r.upper x) 
 -- what the literal with this number states of its witness
 abbrev pub witness_stated : Node → ℕ → Option (List Term)
 witness_stated node i = literal_at node.literals i >>= λ l. of_one l >>= λ r. Some (witnessed_at l.holds r (witness node r))
-
--- ---- splitting
-
--- the symbol binds the Int name with this word and number
-abbrev pub binds_it : List ℕ → ℕ → Symbol → Bool
-binds_it w n (every v m) = bytes_eq v w && (m == n)
-binds_it w n (exists v m) = bytes_eq v w && (m == n)
-binds_it w n symbol = false
-
-abbrev pub any_in_literals : (Symbol → Bool) → List Literal → Bool
-any_in_literals test [] = false
-any_in_literals test (l ∷ ls) = any_symbol test l.atom || any_in_literals test ls
-
-abbrev pub any_in_formulas : (Symbol → Bool) → List Term → Bool
-any_in_formulas test [] = false
-any_in_formulas test (f ∷ fs) = any_symbol test f || any_in_formulas test fs
-
--- the test holds of a symbol of the node
-abbrev pub any_in_node : (Symbol → Bool) → Node → Bool
-any_in_node test node = any_in_literals test node.literals || any_in_formulas test node.pending
-
--- the name is an Int name that a quantifier of the node binds
-abbrev pub is_bound_in : Node → Term → Bool
-is_bound_in node (Of (int_name w n) ps) = any_in_node (binds_it w n) node
-is_bound_in node t = false
-
-abbrev pub any_bound_in : Node → List Term → Bool
-any_bound_in node [] = false
-any_bound_in node (x ∷ xs) = is_bound_in node x || any_bound_in node xs
-
--- an atom of which no free name is bound in the node
-abbrev pub may_split : Node → Term → Bool
-may_split node f = is_atom f && not (any_bound_in node (free_names f))

@@ -6,12 +6,12 @@ use Rattle.wy_lin.specs.wy_term.Sorts.{Sort, int_sort, val_sort, formula_sort, s
 use Rattle.wy_lin.specs.wy_term.Condition.{Entry, Condition}
 use Rattle.wy_lin.specs.Linear.{◌>>=◌}
 use Rattle.wy_facts.specs.Made.{is_at_most, is_equal}
-use Rattle.wy_check_spec.specs.judge.Node.{Literal, Node, added, denied_one, with_formulas, first_node}
+use Rattle.wy_check_spec.specs.judge.Node.{Literal, Node, is_atom, added, denied_one, with_formulas, first_node}
 use Rattle.wy_cert.specs.Steps.{Written, split, shut, chain, clash, sum_of, cut, inst, wit, fact, prod}
 use Rattle.wy_check_spec.specs.valid.Literals.{literal_at, is_shut, is_chain, last_of}
 use Rattle.wy_check_spec.specs.valid.Kinds.{clashes_alone, clash_together}
 use Rattle.wy_check_spec.specs.valid.Sums.{summed, is_refuting, cut_of}
-use Rattle.wy_check_spec.specs.valid.Ranges.{may_split, instance_stated, witness_stated}
+use Rattle.wy_check_spec.specs.valid.Ranges.{instance_stated, witness_stated}
 use Rattle.wy_check_spec.specs.valid.Membership.{fact_among}
 use Rattle.wy_check_spec.specs.valid.Products.{product_stated}
 
@@ -45,7 +45,7 @@ is_clash ls i (Some j) = literal_at ls i >>= λ l. literal_at ls j >>= λ k. Som
 
 -- The nodes to which a step that is no product leads, where it is valid. The named types are those of the condition.
 abbrev pub after_plain : List Entry → Node → Written → Option (List Node)
-after_plain types node (split f) = only_if (may_split node f) (Some (added node f ∷ denied_one node f ∷ []))
+after_plain types node (split f) = only_if (is_atom f) (Some (added node f ∷ denied_one node f ∷ []))
 after_plain types node shut = only_if (is_shut node) closed
 after_plain types node (chain ts) = chain_stated node.literals ts >>= left_with node
 after_plain types node (clash i other) = is_clash node.literals i other >>= λ b. only_if b closed

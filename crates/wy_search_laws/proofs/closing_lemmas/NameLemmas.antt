@@ -1,17 +1,16 @@
 -- Which names are written in a node that has a formula more, and what nodes with the same names have in common.
-use Rattle.std.proofs.Common.{◌≡◌, ◌⊎◌, ◌+◌, ℕ, zero, suc, List, [], ◌∷◌, ◌++◌, Bool, true, false, cond, ltb, not, ◌&&◌, ◌||◌, inl, inr, refl, sym, ap, ◌∙◌}
+use Rattle.std.proofs.Common.{◌≡◌, ◌⊎◌, ◌+◌, ℕ, zero, suc, List, [], ◌∷◌, ◌++◌, Bool, true, false, cond, ltb, ◌||◌, inl, inr, refl, sym, ap, ◌∙◌}
 use Rattle.std.specs.Prelude.{◌^◌}
 use Rattle.wy_lemmas.proofs.Choices.{or_none, or_cases as or_either, same_test as both_ways_same, or_left, or_right, or_assoc}
 use Rattle.wy_search_bounds.specs.wy_term.Term as term
-use Rattle.wy_search_bounds.specs.wy_term.Term.{Symbol, Term, Of, Parts, no_parts, part, Not, leaf, int_name, every, exists}
+use Rattle.wy_search_bounds.specs.wy_term.Term.{Symbol, Term, Of, Parts, no_parts, part, Not, leaf, int_name}
 use Rattle.wy_search_bounds.specs.wy_term.Same.{same_term}
-use Rattle.wy_search_bounds.specs.wy_term.Scope.{free_names}
 use Rattle.wy_search_bounds.proofs.wy_term_proofs.SameLemmas.{terms_are, terms_self}
 use Rattle.wy_search_bounds.specs.wy_term_subst.Names.{any_symbol, any_in_parts, numbers_in, is_in, top, first_free, new_number}
 use Rattle.wy_search_bounds.proofs.wy_term_subst_proofs.NameLemmas.{is_in-append, has_number, is_in-numbers_in, top_same}
 use Rattle.wy_search_bounds.specs.wy_check_spec.judge.Node.{Literal, Node, same_literal, has_literal, has_formula, with_literal, with_pending, is_atom, with_atom, added, added_denial, denied_one, added_all, denied_all, with_formulas}
-use Rattle.wy_search_bounds.specs.wy_check_spec.valid.Ranges.{Range, numbers_in_literals, numbers_in_formulas, numbers_in_node, witness, binds_it, any_in_literals, any_in_formulas, any_in_node, is_bound_in, any_bound_in, may_split}
-use Rattle.wy_search_laws.specs.closing.AtLeast.{IsAtLeast, TestsNames, IsNear}
+use Rattle.wy_search_bounds.specs.wy_check_spec.valid.Ranges.{Range, numbers_in_literals, numbers_in_formulas, numbers_in_node, witness}
+use Rattle.wy_search_laws.specs.closing.AtLeast.{IsAtLeast, any_in_literals, any_in_formulas, any_in_node, TestsNames, IsNear}
 use Rattle.wy_search_laws.proofs.closing_lemmas.AtLeastLemmas.{literal_is, literal_self, at_least_self, at_least_added, at_least_denied}
 
 -- ---- truth values
@@ -189,11 +188,6 @@ IsNamedIn f node = (test : Symbol → Bool) → TestsNames test → any_symbol t
 pub number_tests : (n : ℕ) → TestsNames (has_number n)
 number_tests n s e = ap (is_in n) e
 
-pub binding_tests : (w : List ℕ) (n : ℕ) → TestsNames (binds_it w n)
-binding_tests w n (every v m) e = absurd cc
-binding_tests w n (exists v m) e = absurd cc
-binding_tests w n s e = refl
-
 numbers_literals : (n : ℕ) (ls : List Literal) → is_in n (numbers_in_literals ls) ≡ any_in_literals (has_number n) ls
 numbers_literals n [] = refl
 numbers_literals n (l ∷ ls) =
@@ -232,27 +226,3 @@ new_same ms ns same =
 -- a witness has one name in near nodes
 pub witness_same : (less more : Node) (r : Range) → IsNear less more → witness less r ≡ witness more r
 witness_same less more r h = ap (λ (n : ℕ). leaf (int_name r.word n)) (new_same (numbers_in_node less) (numbers_in_node more) (same_numbers less more h))
-
--- ---- splitting
-
-not_bound : (less more : Node) (x : Term) → IsNear less more → is_bound_in more x ≡ true → is_bound_in less x ≡ true
-not_bound less more (Of (int_name w n) ps) h e = h.names (binds_it w n) (binding_tests w n) e
-not_bound less more t h e = absurd cc
-
-none_bound : (less more : Node) (xs : List Term) → IsNear less more → any_bound_in more xs ≡ true → any_bound_in less xs ≡ true
-none_bound less more [] h e = absurd cc
-none_bound less more (x ∷ xs) h e = by (or_either (is_bound_in more x) (any_bound_in more xs) e) (λ f. none_bound less more xs h f)
-  where
-    by : (is_bound_in more x ≡ true) ⊎ (any_bound_in more xs ≡ true) → (any_bound_in more xs ≡ true → any_bound_in less xs ≡ true) → (is_bound_in less x || any_bound_in less xs) ≡ true
-    by (inl f) rest = or_left (is_bound_in less x) (any_bound_in less xs) (not_bound less more x h f)
-    by (inr f) rest = or_right (is_bound_in less x) (any_bound_in less xs) (rest f)
-
--- an atom on which a node may split, near nodes may split on
-pub splits_near : (less more : Node) (f : Term) → IsNear less more → may_split less f ≡ true → may_split more f ≡ true
-splits_near less more f h e = by (is_atom f) (any_bound_in less (free_names f)) (any_bound_in more (free_names f)) (none_bound less more (free_names f) h) e
-  where
-    by : (a b c : Bool) → (c ≡ true → b ≡ true) → (a && not b) ≡ true → (a && not c) ≡ true
-    by true true c g k = absurd cc
-    by true false true g k = absurd (let bad : false ≡ true = g refl in cc)
-    by true false false g k = refl
-    by false b c g k = absurd cc

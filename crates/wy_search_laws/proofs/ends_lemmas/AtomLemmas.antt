@@ -128,6 +128,10 @@ atom_in [] a h there = absurd there
 atom_in (t ∷ ts) a h (inl e) = subst IsAtom e (record { atomic = h.0; formula = h.1 })
 atom_in (t ∷ ts) a h (inr there) = atom_in ts a h.2 there
 
+-- what a node of sorted formulas splits on is an atom
+pub next_is_atom : (node : Node) (a : Term) → AreFormulas node.pending → next_atom node ≡ some_term a → is_atom a ≡ true
+next_is_atom node a formulas e = (atom_in (atoms_of node.pending) a (all_atomic node.pending formulas) (chosen node a e).there).atomic
+
 -- ---- it becomes a literal
 
 abbrev literal : Term → Bool → Literal

@@ -11,7 +11,7 @@ use Rattle.wy_search_bounds.proofs.wy_vc_laws_proofs.folded_lemmas.OwedLemmas.{c
 use Rattle.wy_search_bounds.specs.wy_vc_laws.shown.Certified.{AreFormed, AreCertified}
 use Rattle.wy_search_bounds.specs.wy_vc_laws.shown.ReadSorted.{AreSortedCertificates}
 use Rattle.wy_search_bounds.proofs.wy_vc_laws_proofs.shown_lemmas.TruthLemmas.{premises_met}
-use Rattle.wy_search_laws.specs.programs.CertifiedPrograms.{IsFoundFreely, AreFoundFreely, FoundHaveCertificates, FoundConditionsAreCertified, FoundProgramsAreCertified}
+use Rattle.wy_search_laws.specs.programs.CertifiedPrograms.{IsFound, AreFound, FoundHaveCertificates, FoundConditionsAreCertified, FoundProgramsAreCertified}
 
 -- ---- each condition
 
@@ -25,7 +25,7 @@ is_folded c h = (formulas_folded c.hyps h.hyps, h.goal)
 each_certified : (cs : List Condition) → AreFormed cs → AreFoldedThroughout cs → FoundHaveCertificates cs
 each_certified [] formed plain = tt
 each_certified (c ∷ cs) formed plain =
-    ((λ (h : IsFoundFreely c). found_conditions_are_certified c h.budget h.leaves formed.0.sorted formed.0.are_closed (is_folded c plain.0) h.free h.found), each_certified cs formed.1 plain.1)
+    ((λ (h : IsFound c). found_conditions_are_certified c h.budget h.leaves formed.0.sorted formed.0.are_closed (is_folded c plain.0) h.found), each_certified cs formed.1 plain.1)
 
 pub conditions_certified : FoundConditionsAreCertified
 conditions_certified core flow = each_certified (owed_conditions core flow) (premises_met core flow) (conditions_folded core flow)
@@ -43,11 +43,11 @@ record HaveFrom (n : ℕ) (cs : List Condition) : Type 0 where
   sorted : AreSortedCertificates certs
   valid : AreCertified certs n cs
 
-have_from : (n : ℕ) (cs : List Condition) → FoundHaveCertificates cs → AreFoundFreely cs → HaveFrom n cs
-have_from n [] each free = record { certs = []; sorted = tt; valid = tt }
-have_from n (c ∷ cs) each free =
-    let first = each.0 free.0 in
-    let rest = have_from (n + 1) cs each.1 free.1 in
+have_from : (n : ℕ) (cs : List Condition) → FoundHaveCertificates cs → AreFound cs → HaveFrom n cs
+have_from n [] each all = record { certs = []; sorted = tt; valid = tt }
+have_from n (c ∷ cs) each all =
+    let first = each.0 all.0 in
+    let rest = have_from (n + 1) cs each.1 all.1 in
     record {
       certs = (n, first.0) ∷ rest.certs;
       sorted = (first.2, rest.sorted);
@@ -55,5 +55,5 @@ have_from n (c ∷ cs) each free =
     }
 
 pub programs_certified : FoundProgramsAreCertified
-programs_certified core flow free =
-    let h = have_from 1 (owed_conditions core flow) (conditions_certified core flow) free in record { certs = h.certs; sorted = h.sorted; valid = h.valid }
+programs_certified core flow all =
+    let h = have_from 1 (owed_conditions core flow) (conditions_certified core flow) all in record { certs = h.certs; sorted = h.sorted; valid = h.valid }

@@ -15,10 +15,9 @@ use Rattle.wy_search_bounds.specs.wy_facts.Made.{made_one, is_equal, all_three, 
 use Rattle.wy_search_bounds.specs.wy_facts.Schema.{◌>>=◌, whole, number_in, stated, is_val_sort, is_val, only_if, instance, datum_by}
 use Rattle.wy_search_bounds.specs.wy_term_subst.kept_sorts.SortKept.{HasSort}
 use Rattle.wy_search_bounds.specs.wy_check_spec.judge.Node.{Node, added, added_all}
-use Rattle.wy_search_bounds.specs.wy_check_spec.valid.Ranges.{any_in_node}
 use Rattle.wy_search_bounds.specs.wy_check_spec.valid.Membership.{fact_among}
 use Rattle.wy_search_bounds.specs.wy_term.Condition.{Entry}
-use Rattle.wy_search_laws.specs.closing.AtLeast.{IsAtLeast, TestsNames, IsNear}
+use Rattle.wy_search_laws.specs.closing.AtLeast.{IsAtLeast, any_in_node, TestsNames, IsNear}
 use Rattle.wy_search_laws.proofs.closing_lemmas.AtLeastLemmas.{at_least_added, more_added}
 use Rattle.wy_search_laws.proofs.closing_lemmas.NameLemmas.{IsNamedIn, any_added}
 

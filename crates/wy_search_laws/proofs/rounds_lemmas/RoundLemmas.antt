@@ -13,7 +13,7 @@ use Rattle.wy_search_bounds.specs.wy_facts.Made.{is_equal, either, made_one}
 use Rattle.wy_search_bounds.specs.wy_cert.Steps.{Written, inst, wit, fact}
 use Rattle.wy_search_bounds.specs.wy_check_spec.judge.Node.{Literal, same_literal, has_literal, Node, added, with_formulas}
 use Rattle.wy_search_bounds.specs.wy_term_subst.Names.{any_symbol, new_number}
-use Rattle.wy_search_bounds.specs.wy_check_spec.valid.Ranges.{Range, of_each, of_one, is_int, instance_at, witness, witnessed_at, numbers_in_node, any_in_literals, any_in_formulas}
+use Rattle.wy_search_bounds.specs.wy_check_spec.valid.Ranges.{Range, of_each, of_one, is_int, instance_at, witness, witnessed_at, numbers_in_node}
 use Rattle.wy_search_bounds.specs.wy_check_spec.valid.Membership.{fact_among}
 use Rattle.wy_search_bounds.specs.wy_check_spec.valid.Validity.{after, left_with, left_with_one}
 use Rattle.wy_search_spec.specs.Standing.{standing}
@@ -21,7 +21,7 @@ use Rattle.wy_search_spec.specs.Expansion.{Spot, with_witness, with_witnesses, i
 use Rattle.wy_search_bounds.specs.wy_check_laws.sound.Sortedness.{AreSortedTerms, IsSortedStep}
 use Rattle.wy_search_bounds.proofs.wy_check_laws_proofs.sound_lemmas.MadeLemmas.{IsFormula, IsVal, equal_sorted, either_sorted, implies_sorted, int_sorted, num_sorted}
 use Rattle.wy_search_bounds.proofs.wy_check_laws_proofs.sound_lemmas.NodeLemmas.{IsSortedNode, added_sorted}
-use Rattle.wy_search_laws.specs.closing.AtLeast.{IsAtLeast, IsNear}
+use Rattle.wy_search_laws.specs.closing.AtLeast.{IsAtLeast, any_in_literals, any_in_formulas, IsNear}
 use Rattle.wy_search_laws.proofs.closing_lemmas.AtLeastLemmas.{at_least_self, at_least_on, more_added, more_formulas, stands_at, literal_self}
 use Rattle.wy_search_laws.proofs.closing_lemmas.NameLemmas.{IsNamedIn, any_literal_there, near_self, near_formulas, witness_same, any_more}
 use Rattle.wy_search_laws.proofs.closing_lemmas.Closing.{AreFoldedLiterals, AreFoldedTerms, IsFoldedNode, IsClosableNear, LeadsOn, led_by}

@@ -9,26 +9,26 @@ use Rattle.wy_search_bounds.specs.wy_term.Sorts.{formula_sort}
 use Rattle.wy_search_bounds.specs.wy_term.Condition.{Entry}
 use Rattle.wy_search_bounds.specs.wy_term_subst.sorted.Sorted.{AreSorted, each}
 use Rattle.wy_search_bounds.specs.wy_term_text.reread.Folded.{IsFolded, AreFolded}
-use Rattle.wy_search_bounds.specs.wy_check_spec.judge.Node.{Literal, Node, added, denied_one, first_node}
+use Rattle.wy_search_bounds.specs.wy_check_spec.judge.Node.{Literal, Node, is_atom, added, denied_one, first_node}
 use Rattle.wy_search_bounds.specs.wy_check_spec.judge.Judgement.{of_atom, judged}
 use Rattle.wy_search_bounds.specs.wy_cert.Steps.{split, shut}
 use Rattle.wy_search_bounds.specs.wy_check_spec.valid.Literals.{is_shut}
-use Rattle.wy_search_bounds.specs.wy_check_spec.valid.Ranges.{may_split}
 use Rattle.wy_search_bounds.specs.wy_check_spec.valid.Validity.{closed as no_node}
 use Rattle.wy_search_spec.specs.Classes.{clashes}
 use Rattle.wy_search_spec.specs.Bounds.{Ending, refuted, consistent, crowded, wide, ending}
 use Rattle.wy_search_spec.specs.Splitting.{joined_atoms, atoms_in, atoms_in_parts, is_open, is_forced, first_forced, first_undecided, first_open, atoms_of, or_else, next_atom}
-use Rattle.wy_search_spec.specs.Expansion.{Spot, with_node, expanded}
+use Rattle.wy_search_spec.specs.Expansion.{Spot, expanded}
 use Rattle.wy_search_spec.specs.Tree.{Next, closed, stays_open, splits, goes_on, why_open, is_more, on_expansion, on_atom, by_ending, next, Verdict, found, spent, follows, searched, first_spot}
 use Rattle.wy_search_bounds.specs.wy_check_laws.sound.Sortedness.{AreFormulas}
 use Rattle.wy_search_bounds.proofs.wy_check_laws_proofs.sound_lemmas.MadeLemmas.{IsFormula}
 use Rattle.wy_search_bounds.proofs.wy_check_laws_proofs.sound_lemmas.NodeLemmas.{AreSortedLiterals, IsSortedNode, added_sorted, denied_sorted, first_sorted}
 use Rattle.wy_search_bounds.proofs.wy_check_laws_proofs.sound_lemmas.StepLemmas.{step_leads}
 use Rattle.wy_search_laws.proofs.closing_lemmas.AtLeastLemmas.{shuts_more}
-use Rattle.wy_search_laws.proofs.closing_lemmas.NameLemmas.{near_self, near_added, near_denied, splits_near}
+use Rattle.wy_search_laws.proofs.closing_lemmas.NameLemmas.{near_self, near_added, near_denied}
 use Rattle.wy_search_laws.proofs.closing_lemmas.Closing.{AreFoldedLiterals, AreFoldedTerms, IsFoldedNode, IsClosableNear, LeadsOn, closed_by, split_by, certificate}
 use Rattle.wy_search_laws.proofs.closing_lemmas.FoldedLemmas.{added_folded, denied_folded, first_folded}
-use Rattle.wy_search_laws.specs.rounds.Leaves.{AreSortedAtoms, AreFoldedAtoms, AreFoldedFormulas, LeavesClose, Comes, begins, left, right, expands, FoundIsCertified}
+use Rattle.wy_search_laws.specs.rounds.Leaves.{AreSortedAtoms, AreFoldedAtoms, AreFoldedFormulas, LeavesClose, FoundIsCertified}
+use Rattle.wy_search_laws.proofs.ends_lemmas.AtomLemmas.{next_is_atom}
 use Rattle.wy_search_laws.proofs.rounds_lemmas.ExpandedLemmas.{expanded_grows}
 
 -- ---- sorted and folded nodes, in both words
@@ -130,9 +130,9 @@ shut_closes types node e more sorted near = closed_by types more shut (only (is_
     only true f = refl
     only false f = absurd cc
 
-split_closes : (types : List Entry) (node : Node) (a : Term) → IsFormula a → may_split node a ≡ true → IsClosableNear types (added node a) → IsClosableNear types (denied_one node a) → IsClosableNear types node
-split_closes types node a is may up down more sorted near =
-    split_by types more (added more a) (denied_one more a) (split a) (only (may_split more a) (splits_near node more a near may)) is (up (added more a) (added_sorted more a sorted is) (near_added node more a near))
+split_closes : (types : List Entry) (node : Node) (a : Term) → IsFormula a → is_atom a ≡ true → IsClosableNear types (added node a) → IsClosableNear types (denied_one node a) → IsClosableNear types node
+split_closes types node a is atom up down more sorted near =
+    split_by types more (added more a) (denied_one more a) (split a) (only (is_atom a) atom) is (up (added more a) (added_sorted more a sorted is) (near_added node more a near))
     (down (denied_one more a) (denied_sorted more a sorted is) (near_denied node more a near))
   where
     only : (b : Bool) → b ≡ true → only_if b (Some (added more a ∷ denied_one more a ∷ [])) ≡ Some (added more a ∷ denied_one more a ∷ [])
@@ -141,12 +141,10 @@ split_closes types node a is may up down more sorted near =
 
 -- ---- what becomes of a node
 
-module _ (leaves : LeavesClose) (types : List Entry) (leads_on : LeadsOn types) (start : Spot)
-    (splits_freely : (p : Spot) (a : Term) → Comes types start p → next_atom p.node ≡ Some a → may_split p.node a ≡ true) where
+module _ (leaves : LeavesClose) (types : List Entry) (leads_on : LeadsOn types) where
   record IsGood (p : Spot) : Type 0 where
     sorted : IsSortedNode p.node
     folded : IsFoldedNode p.node
-    comes : Comes types start p
 
   leaf_closes : (p : Spot) → IsGood p → (clashes p.node ≡ true) ⊎ (ending p.node ≡ refuted) → IsClosableNear types p.node
   leaf_closes p h e more sorted near =
@@ -159,43 +157,41 @@ module _ (leaves : LeavesClose) (types : List Entry) (leads_on : LeadsOn types) 
   IsNext p (splits l r) = IsGood l × IsGood r × (IsClosableNear types l.node → IsClosableNear types r.node → IsClosableNear types p.node)
   IsNext p (goes_on q) = IsGood q × (IsClosableNear types q.node → IsClosableNear types p.node)
 
-  expansion_is : (p : Spot) (e : Ending) → IsGood p → next types p ≡ on_expansion types p e → IsNext p (on_expansion types p e)
-  expansion_is p e h is = by (nat_lt p.rounds 2) (is_more p.node (expanded types p).node) is
+  expansion_is : (p : Spot) (e : Ending) → IsGood p → IsNext p (on_expansion types p e)
+  expansion_is p e h = by (nat_lt p.rounds 2) (is_more p.node (expanded types p).node)
     where
-      by : (b c : Bool) → next types p ≡ cond b (cond c (goes_on (expanded types p)) (stays_open (why_open e))) (stays_open (why_open e)) → IsNext p (cond b (cond c (goes_on (expanded types p)) (stays_open (why_open e))) (stays_open (why_open e)))
-      by true true f =
+      by : (b c : Bool) → IsNext p (cond b (cond c (goes_on (expanded types p)) (stays_open (why_open e))) (stays_open (why_open e)))
+      by true true =
           let g = expanded_grows types p leads_on h.sorted h.folded in
-          (record { sorted = g.sorted; folded = g.folded; comes = expands p (expanded types p) h.comes f }, g.back)
-      by true false f = tt
-      by false c f = tt
+          (record { sorted = g.sorted; folded = g.folded }, g.back)
+      by true false = tt
+      by false c = tt
 
-  atom_is : (p : Spot) (e : Ending) (o : Option Term) → IsGood p → next_atom p.node ≡ o → next types p ≡ on_atom types p e o → IsNext p (on_atom types p e o)
-  atom_is p e None h a is = expansion_is p e h is
-  atom_is p e (Some a) h same is =
-      let fit = next_fit p.node a h.sorted h.folded same in
-      let up = with_node p (added p.node a) in
-      let down = with_node p (denied_one p.node a) in (
-        record { sorted = added_sorted p.node a h.sorted fit.0; folded = added_folded p.node a h.folded fit.1; comes = left p up down h.comes is },
-        record { sorted = denied_sorted p.node a h.sorted fit.0; folded = denied_folded p.node a h.folded fit.1; comes = right p up down h.comes is },
-        λ l r. split_closes types p.node a fit.0 (splits_freely p a h.comes same) l r,
+  atom_is : (p : Spot) (e : Ending) (o : Option Term) → IsGood p → next_atom p.node ≡ o → IsNext p (on_atom types p e o)
+  atom_is p e None h a = expansion_is p e h
+  atom_is p e (Some a) h same =
+      let fit = next_fit p.node a h.sorted h.folded same in (
+        record { sorted = added_sorted p.node a h.sorted fit.0; folded = added_folded p.node a h.folded fit.1 },
+        record { sorted = denied_sorted p.node a h.sorted fit.0; folded = denied_folded p.node a h.folded fit.1 },
+        λ l r. split_closes types p.node a fit.0 (next_is_atom p.node a h.sorted.pending same) l r,
       )
 
-  ending_is : (p : Spot) (e : Ending) → IsGood p → ending p.node ≡ e → next types p ≡ by_ending types p e → IsNext p (by_ending types p e)
-  ending_is p refuted h same is = leaf_closes p h (inr same)
-  ending_is p consistent h same is = atom_is p consistent (next_atom p.node) h refl is
-  ending_is p crowded h same is = atom_is p crowded (next_atom p.node) h refl is
-  ending_is p wide h same is = atom_is p wide (next_atom p.node) h refl is
+  ending_is : (p : Spot) (e : Ending) → IsGood p → ending p.node ≡ e → IsNext p (by_ending types p e)
+  ending_is p refuted h same = leaf_closes p h (inr same)
+  ending_is p consistent h same = atom_is p consistent (next_atom p.node) h refl
+  ending_is p crowded h same = atom_is p crowded (next_atom p.node) h refl
+  ending_is p wide h same = atom_is p wide (next_atom p.node) h refl
 
   next_is : (p : Spot) → IsGood p → IsNext p (next types p)
-  next_is p h = by (is_shut p.node || clashes p.node) refl refl
+  next_is p h = by (is_shut p.node || clashes p.node) refl
     where
       closes : (is_shut p.node ≡ true) ⊎ (clashes p.node ≡ true) → IsClosableNear types p.node
       closes (inl e) = shut_closes types p.node e
       closes (inr e) = leaf_closes p h (inl e)
 
-      by : (b : Bool) → (is_shut p.node || clashes p.node) ≡ b → next types p ≡ cond b closed (by_ending types p (ending p.node)) → IsNext p (cond b closed (by_ending types p (ending p.node)))
-      by true e f = closes (or_cases (is_shut p.node) (clashes p.node) e)
-      by false e f = ending_is p (ending p.node) h refl f
+      by : (b : Bool) → (is_shut p.node || clashes p.node) ≡ b → IsNext p (cond b closed (by_ending types p (ending p.node)))
+      by true e = closes (or_cases (is_shut p.node) (clashes p.node) e)
+      by false e = ending_is p (ending p.node) h refl
 
   -- ---- the walk
 
@@ -228,7 +224,7 @@ module _ (leaves : LeavesClose) (types : List Entry) (leads_on : LeadsOn types) 
       by false f rest = followed (next types p) n m p ps (λ k qs. searched types budget turns k qs) (next_is p good.0) good.1 rest f
 
 pub found_certified : LeavesClose → FoundIsCertified
-found_certified leaves c budget found_leaves sorted are_closed folded freely verdict =
+found_certified leaves c budget found_leaves sorted are_closed folded verdict =
     let first = first_sorted c sorted in
-    let all = found_closable leaves c.types (λ node s below h g e. (step_leads c.types node s below are_closed sorted.types h g e).sorted) (first_spot c) freely budget verdict.0 0 found_leaves (first_spot c ∷ []) (record { sorted = first; folded = first_folded c (formulas_folded c.hyps folded.0) folded.1; comes = begins }, tt) verdict.1 in
+    let all = found_closable leaves c.types (λ node s below h g e. (step_leads c.types node s below are_closed sorted.types h g e).sorted) budget verdict.0 0 found_leaves (first_spot c ∷ []) (record { sorted = first; folded = first_folded c (formulas_folded c.hyps folded.0) folded.1 }, tt) verdict.1 in
     certificate c (all.0 (first_node c) first (near_self (first_node c)))

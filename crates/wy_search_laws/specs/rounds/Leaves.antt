@@ -1,21 +1,19 @@
 -- When a condition that the search finds has a valid certificate.
-use Rattle.std.specs.Prelude.{◌≡◌, ◌⊎◌, ℕ, List, [], ◌∷◌, Bool, true, Option, Some}
+use Rattle.std.specs.Prelude.{◌≡◌, ◌⊎◌, ℕ, List, [], ◌∷◌, true, Some}
 use Rattle.wy_search_bounds.specs.wy_term.Term.{Term}
 use Rattle.wy_search_bounds.specs.wy_term.Sorts.{formula_sort}
 use Rattle.wy_search_bounds.specs.wy_term.Condition.{Entry, Condition}
 use Rattle.wy_search_bounds.specs.wy_term.Unfolding.{AreClosed}
 use Rattle.wy_search_bounds.specs.wy_term_subst.kept_sorts.SortKept.{HasSort}
 use Rattle.wy_search_bounds.specs.wy_term_text.reread.Folded.{IsFolded}
-use Rattle.wy_search_bounds.specs.wy_check_spec.judge.Node.{Literal, Node}
+use Rattle.wy_search_bounds.specs.wy_check_spec.judge.Node.{Literal, Node, is_atom}
 use Rattle.wy_search_bounds.specs.wy_cert.Steps.{Written}
-use Rattle.wy_search_bounds.specs.wy_check_spec.valid.Ranges.{may_split}
 use Rattle.wy_search_bounds.specs.wy_check_spec.valid.Validity.{IsValid}
 use Rattle.wy_search_bounds.specs.wy_check_spec.valid.Trees.{Tree, steps_in, Closes}
 use Rattle.wy_search_spec.specs.Classes.{clashes}
 use Rattle.wy_search_spec.specs.Bounds.{refuted, ending}
 use Rattle.wy_search_spec.specs.Splitting.{next_atom}
-use Rattle.wy_search_spec.specs.Expansion.{Spot}
-use Rattle.wy_search_spec.specs.Tree.{splits, goes_on, next, found, first_spot, IsVerdict}
+use Rattle.wy_search_spec.specs.Tree.{found, IsVerdict}
 use Rattle.wy_search_bounds.specs.wy_check_laws.sound.Sortedness.{AreFormulas, IsSortedCondition, AreSortedSteps}
 use Rattle.wy_search_laws.specs.closing.AtLeast.{IsAtLeast}
 
@@ -55,18 +53,13 @@ IsLeaf node = (clashes node ≡ true) ⊎ (ending node ≡ refuted)
 abbrev pub LeavesClose : Type 0
 LeavesClose = (types : List Entry) (node : Node) → IsSortedThroughout node → IsFoldedThroughout node → IsLeaf node → AreClosedBySteps types node
 
--- ---- the nodes of a search
+-- ---- splits
 
--- the search comes to this spot from the first one
-pub data Comes (types : List Entry) (start : Spot) : Spot → Type 0 where
-  begins : Comes types start start
-  left : (p l r : Spot) → Comes types start p → next types p ≡ splits l r → Comes types start l
-  right : (p l r : Spot) → Comes types start p → next types p ≡ splits l r → Comes types start r
-  expands : (p q : Spot) → Comes types start p → next types p ≡ goes_on q → Comes types start q
+-- what a node of sorted formulas splits on is an atom
+abbrev pub SplitsOnAtoms : Type 0
+SplitsOnAtoms = (node : Node) (a : Term) → AreFormulas node.pending → next_atom node ≡ Some a → is_atom a ≡ true
 
--- each atom on which the search of the condition splits is one on which a certificate may split at that node: none of its free names is bound there
-abbrev pub SplitsFreely : Condition → Type 0
-SplitsFreely c = (p : Spot) (a : Term) → Comes c.types (first_spot c) p → next_atom p.node ≡ Some a → may_split p.node a ≡ true
+-- ---- conditions
 
 -- the hypotheses and the goal are folded
 abbrev pub IsFoldedCondition : Condition → Type 0
@@ -78,7 +71,7 @@ IsFoldedCondition c = AreFoldedFormulas c.hyps × IsFolded c.goal
 abbrev pub HasCertificate : Condition → Type 0
 HasCertificate c = (steps : List Written) × IsValid c steps × AreSortedSteps steps
 
--- Each condition of sorted and folded formulas that the search finds within some budget has a valid certificate. The formula of each of its named types has no other free name than the one that is listed with it, and where the search splits a certificate may split.
+-- Each condition of sorted and folded formulas that the search finds within some budget has a valid certificate. The formula of each of its named types has no other free name than the one that is listed with it.
 abbrev pub FoundIsCertified : Type 0
 FoundIsCertified =
-    (c : Condition) (budget leaves : ℕ) → IsSortedCondition c → AreClosed c.types → IsFoldedCondition c → SplitsFreely c → IsVerdict c budget (found leaves) → HasCertificate c
+    (c : Condition) (budget leaves : ℕ) → IsSortedCondition c → AreClosed c.types → IsFoldedCondition c → IsVerdict c budget (found leaves) → HasCertificate c

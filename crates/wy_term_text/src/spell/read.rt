@@ -35,6 +35,19 @@ pub fn read_term(terms: &mut Terms, text: &[u8]) -> Result<Option<u32>, NoMemory
     }
 }
 
+/// The Int term that the text spells; likewise.
+pub fn read_int_term(terms: &mut Terms, text: &[u8]) -> Result<Option<u32>, NoMemory>
+    ensures spells { IfOk result (λ o. IfSome o (λ t. IsSpelled int_sort text.now (tree_at terms.new t))) }
+    ensures exact { IfOk result (λ o. MatchOption o (SpellsNone int_sort text.now) (λ t. IsOnly int_sort text.now (tree_at terms.new t))) }
+    ensures within { IfOk result (λ o. IfSome o (λ t. t < length terms.new)) }
+    ensures kept { (t : ℕ) → t < length terms.old → tree_at terms.new t ≡ tree_at terms.old t }
+    ensures grows { length terms.old ≤ length terms.new }
+    ensures refused { IfOk result (λ o. IfNone o (length terms.new ≡ length terms.old)) }
+    ensures no_memory { OnErr result (length terms.new ≡ length terms.old) }
+{
+    spelled(terms, Sort::Int, text)
+}
+
 /// The formula that the text spells; likewise.
 pub fn read_formula(terms: &mut Terms, text: &[u8]) -> Result<Option<u32>, NoMemory>
     ensures spells { IfOk result (λ o. IfSome o (λ t. IsSpelled formula_sort text.now (tree_at terms.new t))) }

@@ -42,10 +42,10 @@ body_sorted products verb.Chain text w h = subst IsSortedStep (sym h.is) (argume
 body_sorted products verb.Clash text w h = subst IsSortedStep (sym h.is) tt
 body_sorted products verb.Sum text w h = subst IsSortedStep (sym h.is) tt
 body_sorted products verb.Cut text w h = subst IsSortedStep (sym h.is) tt
-body_sorted products verb.Inst text w h = subst IsSortedStep (sym h.is) (term_sorted h.rest h.term h.spelled)
+body_sorted products verb.Inst text w h = subst IsSortedStep (sym h.is) (spelled_sorted int_sort h.rest h.term h.spelled).0
 body_sorted products verb.Wit text w h = subst IsSortedStep (sym h.is) tt
 body_sorted products verb.Fact text w h = subst IsSortedStep (sym h.is) (arguments_sorted true h.rest h.arguments h.spelled)
-body_sorted products verb.Prod text w h = subst IsSortedStep (sym h.is) (term_sorted h.rest h.term h.spelled)
+body_sorted products verb.Prod text w h = subst IsSortedStep (sym h.is) (spelled_sorted int_sort h.rest h.term h.spelled).0
 
 step_sorted : (products : Bool) (line : List ℕ) (w : Written) → IsStep products line w → IsSortedStep w
 step_sorted products line w h = body_sorted products h.kind h.text w h.body

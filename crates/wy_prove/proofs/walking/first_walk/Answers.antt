@@ -12,11 +12,11 @@ use Rattle.wy_prove.proofs.WalkLemmas.{stands_so}
 use Rattle.wy_prove.proofs.walking.first_walk.Goals as goal
 
 pub returns-clause-value : goal.returns-clause-value
-returns-clause-value c = λ budget all found.
+returns-clause-value c = λ budget v found.
     let at = tree_at c.args.terms.now in
     let k = condition_of c.args.terms.now c.args.cond.now in
-    stands_so k budget all 0 (first_spot k) (seen_spot at c.in_ok-spot.spot) (at_node (first_node k)) (seen_draft at c.in_ok-draft.draft) [] (map (seen_waiting at) c.new.result.items) c.in_ok-spot.ensures.value c.in_ok-draft.ensures.seen (ap (map (seen_waiting at)) c.new.ensures.items)
-    (first_left k budget all found)
+    stands_so k budget v 0 (first_spot k) (seen_spot at c.in_ok-spot.spot) (at_node (first_node k)) (seen_draft at c.in_ok-draft.draft) [] (map (seen_waiting at) c.new.result.items) c.in_ok-spot.ensures.value c.in_ok-draft.ensures.seen (ap (map (seen_waiting at)) c.new.ensures.items)
+    (first_left k budget v found)
 
 pub returns-clause-walk : goal.returns-clause-walk
 returns-clause-walk c = record {

@@ -12,10 +12,10 @@ use Rattle.wy_prove.proofs.WalkLemmas.{stands_so, waiting_seen, waiting_stay}
 use Rattle.wy_prove.proofs.walking.turn.Goals as goal
 
 pub returns-then-leaves-budget-clause-value : goal.returns-then-leaves-budget-clause-value
-returns-then-leaves-budget-clause-value c = λ k all same manner h.
+returns-then-leaves-budget-clause-value c = λ k v same h.
     let at = tree_at c.args.terms.now in
     let d = seen_draft at c.args.walk.draft in
-    absurd (never_spent k c.args.budget all c.args.walk.leaves (seen_spot at c.args.walk.spot) d.node d.steps (map (seen_waiting at) c.args.walk.waiting.items) c.if-leaves-budget.true h)
+    never_spent k c.args.budget v c.args.walk.leaves (seen_spot at c.args.walk.spot) d.node d.steps (map (seen_waiting at) c.args.walk.waiting.items) c.if-leaves-budget.true h
 
 pub behind-requires-clause-types : goal.behind-requires-clause-types
 behind-requires-clause-types c = types_up c.args.terms.now c.what_follows.new.terms c.args.cond.now c.in_ok-next.ensures.stays c.requires.types
@@ -27,15 +27,15 @@ pub behind-requires-clause-waiting : goal.behind-requires-clause-waiting
 behind-requires-clause-waiting c = waiting_stay c.args.terms.now c.what_follows.new.terms c.args.walk.waiting.items c.in_ok-next.ensures.stays c.requires.walk.waiting
 
 pub returns-clause-value : goal.returns-clause-value
-returns-clause-value c = λ k all same manner h.
+returns-clause-value c = λ k v same h.
     let old = c.args.terms.now in
     let new = c.what_follows.new.terms in
     let stays = c.in_ok-next.ensures.stays in
     let p = seen_spot (tree_at old) c.args.walk.spot in
     let d = seen_draft (tree_at old) c.args.walk.draft in
     let ws = map (seen_waiting (tree_at old)) c.args.walk.waiting.items in
-    c.behind.ensures.value k all p (same ∙ sym (types_stay old new c.args.cond.now stays c.requires.types)) manner
-    (stands_so k c.args.budget all c.args.walk.leaves p p d (seen_draft (tree_at new) c.args.walk.draft) ws (map (seen_waiting (tree_at new)) c.args.walk.waiting.items) refl (seen_draft_stays old new c.args.walk.draft stays c.requires.walk.draft) (waiting_seen old new c.args.walk.waiting.items stays c.requires.walk.waiting) h)
+    c.behind.ensures.value k v p (same ∙ sym (types_stay old new c.args.cond.now stays c.requires.types))
+    (stands_so k c.args.budget v c.args.walk.leaves p p d (seen_draft (tree_at new) c.args.walk.draft) ws (map (seen_waiting (tree_at new)) c.args.walk.waiting.items) refl (seen_draft_stays old new c.args.walk.draft stays c.requires.walk.draft) (waiting_seen old new c.args.walk.waiting.items stays c.requires.walk.waiting) h)
     c.in_ok-next.ensures.value
 
 pub returns-clause-stays : goal.returns-clause-stays

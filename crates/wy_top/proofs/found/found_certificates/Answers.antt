@@ -1,13 +1,22 @@
 use Rattle.std.proofs.Common.{◌≡◌, ◌<◌, ◌∙◌, ◌+◌, length, true, rules, refl, sym, subst, arith}
 use Rattle.wy_cert.specs.Steps.{certificates_of}
+use Rattle.wy_prove.specs.Answers.{IsFormedThroughout}
 use Rattle.wy_term.specs.Condition.{condition_of}
 use Rattle.wy_top.specs.Found.{IsMore}
 use Rattle.wy_top.specs.Known.{is_found}
 use Rattle.wy_top.specs.Seen.{seen_end}
 use Rattle.wy_top.specs.declared.verdict.Verdict.{Verdict}
-use Rattle.wy_top.proofs.FoundLemmas.{are_named, found_turn, is_more, lacks_at}
+use Rattle.wy_top.proofs.FoundLemmas.{are_named, formed_at, found_turn, is_more, lacks_at}
 use Rattle.wy_top.proofs.JudgedLemmas.{same_condition, within_at}
 use Rattle.wy_top.proofs.found.found_certificates.Goals as goal
+
+pub with_found-requires-clause-formed : goal.with_found-requires-clause-formed
+with_found-requires-clause-formed c =
+    let lt : c.loop-i.i < length c.args.conds.now = search rules in
+    let old = c.args.terms.now in
+    let cond = c.index-conds-i.result in
+    let same = same_condition old c.loop-i.terms cond c.loop-i.invariant.same c.loop-i.invariant.kept (within_at (length old) c.args.conds.now c.loop-i.i cond c.requires.within lt c.index-conds-i.is) in
+    subst IsFormedThroughout (sym same) (formed_at (condition_of old) c.args.conds.now c.loop-i.i cond c.requires.formed lt c.index-conds-i.is)
 
 pub returns-in-None-clause-lacking : goal.returns-in-None-clause-lacking
 returns-in-None-clause-lacking c = λ none.

@@ -1,15 +1,20 @@
-use Rattle.std.proofs.Common.{◌<◌, ◌^◌, List, length, map, subst, arith}
+use Rattle.std.proofs.Common.{◌<◌, ◌^◌, All, List, length, map, sym, subst, arith}
 use Rattle.wy_top_answers.proofs.StepLemmas.{memory_gives}
 use Rattle.wy_cert.specs.Steps.{certificates_of}
+use Rattle.wy_prove.specs.Answers.{IsFormedThroughout}
+use Rattle.wy_term.specs.Condition.{condition_of}
+use Rattle.wy_term.specs.declared.cond.Cond.{Cond}
 use Rattle.wy_cert.specs.writing.Text.{file_text}
 use Rattle.wy_top.specs.Programs.{conditions_of}
 use Rattle.wy_top.specs.Proofs.{judges}
 use Rattle.wy_top.specs.Seen.{known}
 use Rattle.wy_top.specs.declared.verdict.Verdict.{Verdict}
-use Rattle.wy_top_answers.proofs.wy_vc_laws_proofs.folded_lemmas.OwedLemmas.{conditions_folded}
 use Rattle.wy_top.proofs.FoundLemmas.{left_out}
 use Rattle.wy_top.proofs.ProofLemmas.{found_for, lacks_for, saved_file, saved_gives, unmade_gives}
 use Rattle.wy_top.proofs.proving.made.Goals as goal
+
+pub found_certificates-requires-clause-formed : goal.found_certificates-requires-clause-formed
+found_certificates-requires-clause-formed c = subst (λ (cs : List Cond). All (λ d. IsFormedThroughout (condition_of c.args.judged.conds.terms d)) cs) (sym c.deref.ensures.value) c.requires.each.formed
 
 pub returns-in-Err-clause-gives : goal.returns-in-Err-clause-gives
 returns-in-Err-clause-gives c = λ s p h. memory_gives s (judges c.args.name.now c.args.bytes.now p c.args.budget) c.no_memory.result c.no_memory.ensures.value
@@ -31,5 +36,5 @@ returns-in-Ok-Some-clause-file c = λ p h.
 pub returns-in-Ok-None-clause-gives : goal.returns-in-Ok-None-clause-gives
 returns-in-Ok-None-clause-gives c = λ s p h.
     unmade_gives s c.args.name.now c.args.bytes.now p c.args.budget c.uncertified.result (map known c.args.judged.verdicts.items) h.known
-    (left_out c.args.budget 1 (conditions_of p) (map known c.args.judged.verdicts.items) h.known h.formed (conditions_folded p.core p.flow)
+    (left_out c.args.budget 1 (conditions_of p) (map known c.args.judged.verdicts.items) h.known
     (lacks_for p c.args.budget c.args.judged c.deref.result.now c.deref-2.result.now c.deref.ensures.value c.deref-2.ensures.value h.conditions (c.in-Ok-None.ensures.lacking c.in-Ok-None.field-0-is))) c.uncertified.ensures.value

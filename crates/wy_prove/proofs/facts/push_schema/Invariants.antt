@@ -1,5 +1,0 @@
-use Rattle.wy_facts.specs.Seen.{Stays}
-use Rattle.wy_prove.proofs.facts.push_schema.Given as goal
-
-abbrev pub invariant-loop-i : goal.invariant-loop-i
-invariant-loop-i l = Stays l.fn.terms l.terms
