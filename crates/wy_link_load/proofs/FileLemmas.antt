@@ -40,8 +40,8 @@ fails_by f = Err f
 same_program : (p q : Program) → read_as q ≡ read_as p → q ≡ p
 same_program p q e = cc
 
-same_fault : (f g : SourceFault) → fails_by f ≡ fails_by g → g ≡ f
-same_fault f g e = sym (cc)
+same_fault : (f g : SourceFault) → fails_by g ≡ fails_by f → f ≡ g
+same_fault f g e = let same : g ≡ f = cc in sym same
 
 never : (p : Program) (f : SourceFault) → read_as p ≡ fails_by f → ⊥
 never p f e = absurd (cc)
@@ -87,7 +87,7 @@ fault_of : (s : Setting) (name bytes : List ℕ) (f : SourceFault) (a : Answer) 
     → AnswersFault (faults.is_no_memory f) 1 (text_line name bytes f) a → Gives s (spelled name bytes) (Err a)
 fault_of s name bytes f a is reads exact answers =
     called_fault s (λ m file. IsFile name bytes file) (text_faults name bytes) (is_faulted bytes) f a (λ un_so. is)
-    (λ file h. memory f (λ n. never file.program f (reads file.program h.spelled n))) (λ g due un_so. sym (same_fault f g (exact g due (apart f un_so)))) answers
+    (λ file h. memory f (λ n. never file.program f (reads file.program h.spelled n))) (λ g due un_so. same_fault f g (exact g due (apart f un_so))) answers
 
 pub spelled_fault : (s : Setting) (name bytes called read shown : List ℕ) (f : SourceFault) (a : Answer) → called ≡ name → read ≡ bytes → shown ≡ bytes → front.IsRefused read f → Reads read (Err f) → Faults read (Err f)
     → AnswersFault (faults.is_no_memory f) 1 (text_line called shown f) a → Gives s (spelled name bytes) (Err a)

@@ -47,7 +47,9 @@ pub loads_one : (s : Setting) (room : ℕ) (stack : List (List ℕ)) (name : Lis
     → Gives s (and_then (reads s name) (loads_around (loads_file (room - 1) s) (room - 1) stack finished)) r → Gives s (loads_file room s stack name finished) r
 unfolding loads_file
 loads_one s zero stack name finished r some g = absurd (omega (arith, some))
-loads_one s (suc room) stack name finished r some g = g
+loads_one s (suc room) stack name finished r some g =
+    let less : suc room - 1 ≡ room = omega arith in
+    subst (λ (n : ℕ). Gives s (and_then (reads s name) (loads_around (loads_file n s) n stack finished)) r) less g
 
 -- its imports were loaded in this state, which is that of the file
 pub inside_as : (s : Setting) (room : ℕ) (stack inner : List (List ℕ)) (finished begun : List SourceFile) (file : SourceFile) (r : Came (List SourceFile)) → inner ≡ stack ++ file.name ∷ [] → begun ≡ finished
@@ -85,23 +87,29 @@ earlier_is : (imports : List (List ℕ × ℕ)) (next : ℕ) (import : List ℕ 
 earlier_is imports next import under is = take_more imports next import under ∙ ap (λ (i : List ℕ × ℕ). take next imports ++ i ∷ []) (sym is)
 
 -- the walk goes on in a state whose stack is the same
-pub loads_next : (s : Setting) (room : ℕ) (stack inner : List (List ℕ)) (file : SourceFile) (imports : List (List ℕ × ℕ)) (next : ℕ) (import : List ℕ × ℕ) (finished more : List SourceFile) (r : Came (List SourceFile))
-    → next < length imports → import ≡ get_or imports next import → inner ≡ stack
-    → Gives s (loads_import (loads_file room s stack) room stack file (take next imports) import finished) (Ok more)
+pub loads_next : (s : Setting) (room : ℕ) (stack inner : List (List ℕ)) (file : SourceFile) (seen imports : List (List ℕ × ℕ)) (next : ℕ) (import : List ℕ × ℕ) (finished more : List SourceFile) (r : Came (List SourceFile))
+    → seen ≡ imports → next < length seen → import ≡ get_or seen next import → inner ≡ stack
+    → Gives s (loads_import (loads_file room s stack) room stack file (take next seen) import finished) (Ok more)
     → Gives s (loads_imports (loads_file room s inner) room inner file (take (next + 1) imports) (drop (next + 1) imports) more) r
     → Gives s (loads_imports (loads_file room s stack) room stack file (take next imports) (drop next imports) finished) r
-loads_next s room stack inner file imports next import finished more r under is same g h =
+loads_next s room stack inner file seen imports next import finished more r known within found same given h =
     let load = loads_file room s stack in
+    let under = subst (λ (xs : List (List ℕ × ℕ)). next < length xs) known within in
+    let is = subst (λ (xs : List (List ℕ × ℕ)). import ≡ get_or xs next import) known found in
+    let g = subst (λ (xs : List (List ℕ × ℕ)). Gives s (loads_import load room stack file (take next xs) import finished) (Ok more)) known given in
     let here = subst (λ (st : List (List ℕ)). Gives s (loads_imports (loads_file room s st) room st file (take (next + 1) imports) (drop (next + 1) imports) more) r) same h in
     let then = subst (λ (earlier : List (List ℕ × ℕ)). Gives s (loads_imports load room stack file earlier (drop (next + 1) imports) more) r) (earlier_is imports next import under is) here in
     subst (λ (rest : List (List ℕ × ℕ)). Gives s (loads_imports load room stack file (take next imports) rest finished) r) (sym (rest_is imports next import under is))
     (goes s (loads_import load room stack file (take next imports) import finished) (loads_imports load room stack file (take next imports ++ import ∷ []) (drop (next + 1) imports)) more r g then)
 
-pub loads_stop : (s : Setting) (load : Load) (room : ℕ) (stack : List (List ℕ)) (file : SourceFile) (imports : List (List ℕ × ℕ)) (next : ℕ) (import : List ℕ × ℕ) (finished : List SourceFile) (a : Answer)
-    → next < length imports → import ≡ get_or imports next import
-    → Gives s (loads_import load room stack file (take next imports) import finished) (Err a)
+pub loads_stop : (s : Setting) (load : Load) (room : ℕ) (stack : List (List ℕ)) (file : SourceFile) (seen imports : List (List ℕ × ℕ)) (next : ℕ) (import : List ℕ × ℕ) (finished : List SourceFile) (a : Answer)
+    → seen ≡ imports → next < length seen → import ≡ get_or seen next import
+    → Gives s (loads_import load room stack file (take next seen) import finished) (Err a)
     → Gives s (loads_imports load room stack file (take next imports) (drop next imports) finished) (Err a)
-loads_stop s load room stack file imports next import finished a under is g =
+loads_stop s load room stack file seen imports next import finished a known within found given =
+    let under = subst (λ (xs : List (List ℕ × ℕ)). next < length xs) known within in
+    let is = subst (λ (xs : List (List ℕ × ℕ)). import ≡ get_or xs next import) known found in
+    let g = subst (λ (xs : List (List ℕ × ℕ)). Gives s (loads_import load room stack file (take next xs) import finished) (Err a)) known given in
     subst (λ (rest : List (List ℕ × ℕ)). Gives s (loads_imports load room stack file (take next imports) rest finished) (Err a)) (sym (rest_is imports next import under is))
     (ends_there s (loads_import load room stack file (take next imports) import finished) (loads_imports load room stack file (take next imports ++ import ∷ []) (drop (next + 1) imports)) a g)
 
