@@ -1,21 +1,12 @@
 -- What is taken is a source that was loaded and imports nothing.
 use Rattle.std.proofs.Common.{◌≡◌, ◌∙◌, ℕ, List, [], ◌∷◌, Ok, Err, refl, sym, ap, subst}
 use Rattle.wy_parse_front.specs.Front.{Spells}
-use Rattle.wy_top_answers.specs.Answers.{refused}
 use Rattle.wy_top_answers.specs.Loading.{Loads, source_limit}
-use Rattle.wy_top_answers.specs.Steps.{Came, Follows, Sense, Setting, ends, goes_on, stated}
+use Rattle.wy_top_answers.specs.Steps.{Came, Follows, ends, goes_on, stated}
 use Rattle.wy_top_answers.specs.declared.answer.Answer.{Answer}
-use Rattle.wy_link_load.specs.Alone.{IsAlone, TakesWhatImportsNothing, takes, takes_with}
-use Rattle.wy_link_load.specs.Files.{IsFile}
-use Rattle.wy_link_load.specs.Loading.{loads_behind}
+use Rattle.wy_link_load.specs.Alone.{TakesWhatImportsNothing, takes_with}
 use Rattle.wy_link_load.specs.declared.file.SourceFile.{SourceFile}
 use Rattle.wy_link_load.specs.declared.loading.Sources.{Sources}
-
-came_to : {X : Type 0} → X → Came X
-came_to x = Ok x
-
-stopped : (X : Type 0) → Answer → Came X
-stopped X a = Err a
 
 no_value : {X : Type 0} (x : X) (a : Answer) → (let r : Came X = Ok x in r ≡ Err a) → ⊥
 no_value x a e = absurd cc

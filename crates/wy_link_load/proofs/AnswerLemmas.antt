@@ -1,19 +1,18 @@
 -- With which answers does loading end? That a file isn't loaded, or a refusal with status 1.
-use Rattle.std.proofs.Common.{◌≡◌, ℕ, zero, suc, List, [], ◌∷◌, ◌++◌, codes, Ok, Err, refl, sym, subst}
+use Rattle.std.proofs.Common.{◌≡◌, ℕ, zero, suc, List, [], ◌∷◌, ◌++◌, Ok, Err, sym, subst}
 use Rattle.wy_port.specs.declared.files.LoadFault.{LoadFault}
 use Rattle.wy_top_answers.specs.Answers.{refused}
 use Rattle.wy_top_answers.specs.Loading.{loaded, source_limit}
-use Rattle.wy_top_answers.specs.Steps.{Came, Follows, Sense, Setting, ends, goes_on, stated}
+use Rattle.wy_top_answers.specs.Steps.{Came, Follows, Setting, ends, goes_on, stated}
 use Rattle.wy_top_answers.specs.Texts.{load_status, load_text}
 use Rattle.wy_top_answers.specs.declared.answer.Answer.{Answer}
 use Rattle.wy_link_load.specs.Alone.{loads_alone, takes_with}
-use Rattle.wy_link_load.specs.Files.{fault_line, reads, spelled}
-use Rattle.wy_link_load.specs.Imports.{import_file, import_of, word}
+use Rattle.wy_link_load.specs.Files.{reads, spelled}
+use Rattle.wy_link_load.specs.Imports.{import_file, import_of}
 use Rattle.wy_link_load.specs.Loading.{Load, follows, loads, loads_behind, loads_file, loads_import, loads_imports}
 use Rattle.wy_link_load.specs.declared.file.SourceFile.{SourceFile}
 use Rattle.wy_link_load.specs.declared.importing.Import.{Import}
 use Rattle.wy_link_load.specs.declared.importing.Import.TheVariants.{Loaded, New, Refused}
-use Rattle.wy_link_load.specs.declared.loading.Sources.{Sources}
 
 -- what holds of each of these answers
 pub record Covers (P : Answer → Type 0) : Type 0 where

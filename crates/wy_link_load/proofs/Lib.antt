@@ -1,6 +1,5 @@
 mod FileLemmas
 mod WalkLemmas
-mod TakenLemmas
 mod ImportLemmas
 pub mod AloneLemmas
 pub mod AnswerLemmas

@@ -1,13 +1,13 @@
 -- The steps of loading, as the walk takes them.
-use Rattle.std.proofs.Common.{◌≡◌, ◌∙◌, ◌<◌, ◌≤◌, ◌+◌, ◌-◌, ℕ, zero, suc, List, [], ◌∷◌, ◌++◌, length, take, drop, get_or, Option, Some, None, MatchOption, IfOk, IfErr, Ok, Err, arith, refl, sym, ap, subst}
-use Rattle.std.proofs.lemmas.List.{drop_all, drop_more, take_more}
-use Rattle.wy_top_answers.specs.Answers.{IsRefusal, no_memory, refused}
-use Rattle.wy_top_answers.specs.Steps.{Came, Gives, Sense, Setting, and_then, came}
+use Rattle.std.proofs.Common.{◌≡◌, ◌∙◌, ◌<◌, ◌+◌, ◌-◌, ℕ, zero, suc, List, [], ◌∷◌, ◌++◌, length, take, drop, get_or, Option, Some, None, MatchOption, IfOk, IfErr, Ok, Err, arith, refl, sym, ap, subst}
+use Rattle.std.proofs.lemmas.List.{drop_more, take_more}
+use Rattle.wy_top_answers.specs.Answers.{no_memory}
+use Rattle.wy_top_answers.specs.Steps.{Came, Gives, Setting, and_then, came}
 use Rattle.wy_top_answers.specs.declared.answer.Answer.{Answer}
-use Rattle.wy_top_answers.proofs.StepLemmas.{ends_there, goes, memory_gives, refusal_gives, value_gives}
-use Rattle.wy_link_load.specs.Files.{fault_line, reads}
-use Rattle.wy_link_load.specs.Imports.{import_file, import_of, word}
-use Rattle.wy_link_load.specs.Loading.{Load, comes_to, ends_with, finished_in, follows, loads_around, loads_behind, loads_file, loads_import, loads_imports}
+use Rattle.wy_top_answers.proofs.StepLemmas.{ends_there, goes, memory_gives, value_gives}
+use Rattle.wy_link_load.specs.Files.{reads}
+use Rattle.wy_link_load.specs.Imports.{import_file, import_of}
+use Rattle.wy_link_load.specs.Loading.{Load, comes_to, finished_in, follows, loads_around, loads_behind, loads_file, loads_import, loads_imports}
 use Rattle.wy_link_load.specs.declared.file.SourceFile.{SourceFile}
 use Rattle.wy_link_load.specs.declared.importing.Import.{Import}
 use Rattle.wy_link_load.specs.declared.loading.Loading.{Loading as Kept}
@@ -17,9 +17,6 @@ use Rattle.wy_link_load.specs.declared.loading.Sources.{Sources}
 
 pub comes : {X : Type 0} (s : Setting) (x : X) → Gives s (comes_to x) (Ok x)
 comes s x = value_gives s (comes_to x) x refl (λ told other h. h)
-
-pub refuses : {X : Type 0} (s : Setting) (text : List ℕ) (a : Answer) → IsRefusal 1 text a → Gives s (ends_with {X = X} (refused 1 text)) (Err a)
-refuses {X = X} s text a is = refusal_gives s (ends_with {X = X} (refused 1 text)) 1 text a is refl (λ told other h. h)
 
 -- ---- the stack
 
@@ -74,11 +71,6 @@ around_stops s room stack finished file a g =
     ends_there s (loads_imports (loads_file room s (stack ++ file.name ∷ [])) room (stack ++ file.name ∷ []) file [] file.program.imports finished) (λ fs. comes_to (fs ++ file ∷ [])) a g
 
 -- ---- the imports of a file, from the one with this index on
-
-pub loads_no_more : (s : Setting) (load : Load) (room : ℕ) (stack : List (List ℕ)) (file : SourceFile) (imports : List (List ℕ × ℕ)) (next : ℕ) (finished : List SourceFile) → length imports ≤ next
-    → Gives s (loads_imports load room stack file (take next imports) (drop next imports) finished) (Ok finished)
-loads_no_more s load room stack file imports next finished past =
-    subst (λ (rest : List (List ℕ × ℕ)). Gives s (loads_imports load room stack file (take next imports) rest finished) (Ok finished)) (sym (drop_all next imports past)) (comes s finished)
 
 rest_is : (imports : List (List ℕ × ℕ)) (next : ℕ) (import : List ℕ × ℕ) → next < length imports → import ≡ get_or imports next import → drop next imports ≡ import ∷ drop (next + 1) imports
 rest_is imports next import under is = drop_more imports next import under ∙ ap (λ (i : List ℕ × ℕ). i ∷ drop (next + 1) imports) (sym is)

@@ -1,7 +1,7 @@
 -- Whether the name is one of those from here on is whether it is one of them all.
 use Rattle.std.proofs.Common.{◌≡◌, drop, map}
 use Rattle.wy_port.specs.FilesInMemory.{is_among}
-use Rattle.wy_link_load.specs.Imports.{file_name, name_of}
+use Rattle.wy_link_load.specs.Imports.{name_of}
 use Rattle.wy_link_load.proofs.importing.is_imported.Given as goal
 
 abbrev pub invariant-loop-import : goal.invariant-loop-import
