@@ -2,7 +2,7 @@
 use Rattle.std.specs.Prelude.{◌≡◌, ◌⊎◌, ℕ, List, [], ◌∷◌, length, Bool, true, false, Ok, Err}
 use Rattle.wy_top_answers.specs.Answers.{refused, written}
 use Rattle.wy_link_load.specs.Alone.{IsAlone, loads_alone}
-use Rattle.wy_top_answers.specs.Steps.{Came, Sense, stated, due, Setting, and_then, both}
+use Rattle.wy_top_answers.specs.Steps.{Came, Sense, stated, due, Setting, and_then}
 use Rattle.wy_top_answers.specs.Texts.{not_certified}
 use Rattle.wy_top_answers.specs.declared.answer.Answer.{Answer}
 use Rattle.wy_cert.specs.File.{ReadsFile}
