@@ -84,11 +84,11 @@ class Step:
             raise ValueError(f"{self.folder}: {line}")
 
     def play(self, program, room):
+        for name in self.folders:
+            os.makedirs(f"{room}/{name}", exist_ok=True)
         for name, text in self.given.items():
             with open(f"{room}/{name}", "wb") as file:
                 file.write(text)
-        for name in self.folders:
-            os.makedirs(f"{room}/{name}", exist_ok=True)
         with open(self.sink or os.devnull, "wb") as sink:
             how = {"stdout": sink if self.sink else subprocess.PIPE, "stderr": subprocess.PIPE, "timeout": SECONDS}
             ran = subprocess.run([program, *self.words], cwd=room, stdin=subprocess.DEVNULL, check=False, **how)

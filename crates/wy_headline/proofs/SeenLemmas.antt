@@ -16,6 +16,8 @@ use Rattle.wy_top.specs.wy_mach_run.declared.fault.StartFault.TheVariants as sta
 use Rattle.wy_top.specs.wy_top_answers.supplied.Certificates.{certificates, from_file, no_file, without}
 use Rattle.wy_top.specs.wy_top_answers.report.Lines.{save_failed, words_refused}
 use Rattle.wy_top_big.specs.Source.{argument_text, entry}
+use Rattle.wy_top.specs.wy_link_load.Alone.{loads_alone}
+use Rattle.wy_top.proofs.wy_link_load_proofs.AnswerLemmas.{alone_covered}
 use Rattle.wy_top.specs.Acceptance.{Acceptance, accepts, accepts_file, accepts_source, are_closed, check_steps}
 use Rattle.wy_top.specs.Known.{Known}
 use Rattle.wy_top.specs.Large.{large_name, makes_one}
@@ -25,7 +27,7 @@ use Rattle.wy_top.specs.Proofs.{IsJudged, proof_answer, proves_file}
 use Rattle.wy_top.specs.Saves.{Saves, Saving}
 use Rattle.wy_top.specs.Saves as saves
 use Rattle.wy_top.specs.Statement.{Does, DoesIf, IsAnswered, ShowsProof}
-use Rattle.wy_top.specs.Texts.{text, text_steps}
+use Rattle.wy_top.specs.Texts.{source_for, text, text_steps}
 use Rattle.wy_top.specs.declared.texts.Text.{Text}
 use Rattle.wy_top.specs.declared.texts.Text.TheVariants as kind_of
 use Rattle.wy_top_words.specs.CommandLine.{Asked, check, run, prove, conds, fmt, dis, big, command_of}
@@ -132,6 +134,16 @@ loaded_apart s name limit a h = by h.fault h.answer
     by load.Failed e = other 4 a _ e refl no_4
     by load.NoMemory e = other 9 a _ e refl no_9
 
+-- those of loading a source that imports nothing
+alone_apart : (s : Setting) (name : List ℕ) (a : Answer) → loads_alone s name stated (Err a) → Apart a
+alone_apart s name a h = alone_covered Apart (record { not_loaded = by; refuses = λ lines. no_1 }) s name a h
+  where
+    by : (f : LoadFault) (file : List ℕ) → Apart (refused (load_status f) (load_text file f))
+    by load.Absent file = no_3
+    by load.TooLong file = no_10
+    by load.Failed file = no_4
+    by load.NoMemory file = no_9
+
 -- a fault of another status
 faulted_apart : {F : Type 0} (faults : Faults F) (there : F → Type 0) → ((f : F) → faults.status f ≢ 13) → (a : Answer) → IsFaulted faults there a → Apart a
 faulted_apart faults there apart a h = other (faults.status h.fault) a _ h.answer refl (apart h.fault)
@@ -155,7 +167,7 @@ source_apart s name cert budget bytes a h =
     of_steps Apart _ _ (λ b g. owes_apart name bytes b g) (λ p b g. of_steps Apart _ _ (λ c f. certificates_apart s cert _ c f) (λ certs c f. accepts_apart name cert bytes p certs budget c f) b g) a h
 
 file_apart : (s : Setting) (name cert : List ℕ) (budget : ℕ) (a : Answer) → accepts_file s name cert budget stated (Err a) → Apart a
-file_apart s name cert budget a h = of_steps Apart _ _ (λ b g. loaded_apart s name _ b g) (λ bytes b g. source_apart s name cert budget bytes b g) a h
+file_apart s name cert budget a h = of_steps Apart _ _ (λ b g. alone_apart s name b g) (λ bytes b g. source_apart s name cert budget bytes b g) a h
 
 start_status : (f : StartFault) → fault_status f ≢ 13
 start_status start.NoEntry = no_7
@@ -211,9 +223,14 @@ text_kind_apart kind_of.Layout source bytes a h = faulted_apart _ _ (λ f. no_1)
 text_kind_apart kind_of.Listing source bytes a h = faulted_apart _ _ (λ f. no_1) a h
 text_kind_apart kind_of.Conditions source bytes a h = faulted_apart _ _ (λ f. no_1) a h
 
+text_source_apart : (s : Setting) (kind : Text) (source : List ℕ) (a : Answer) → source_for s kind source stated (Err a) → Apart a
+text_source_apart s kind_of.Layout source a h = loaded_apart s source _ a h
+text_source_apart s kind_of.Listing source a h = alone_apart s source a h
+text_source_apart s kind_of.Conditions source a h = alone_apart s source a h
+
 text_bad : (s : Setting) (kind : Text) (source : List ℕ) (a : Answer) → text_steps s kind source stated (Err a) → Apart a
 text_bad s kind source a h =
-    of_steps Apart _ _ (λ b g. of_steps Apart _ _ (λ c f. loaded_apart s source _ c f) (λ bytes c f. text_kind_apart kind source bytes c f) b g) (λ x b g. absurd (no_answer b _ g)) a h
+    of_steps Apart _ _ (λ b g. of_steps Apart _ _ (λ c f. text_source_apart s kind source c f) (λ bytes c f. text_kind_apart kind source bytes c f) b g) (λ x b g. absurd (no_answer b _ g)) a h
 
 -- ---- runs
 
@@ -260,7 +277,7 @@ proof_good : (s : Setting) (source : List ℕ) (budget : ℕ) (a : Answer) → p
 proof_good s source budget a h = value_apart _ _ (λ bytes b g. value_apart _ _ (λ p c f. judged_apart source bytes p budget c f) b g) a h
 
 proof_bad : (s : Setting) (source : List ℕ) (budget : ℕ) (a : Answer) → proves_file s source budget stated (Err a) → Fine a
-proof_bad s source budget a h = of_steps Fine _ _ (λ b g. fine b (loaded_apart s source _ b g)) (λ bytes b g. of_steps Fine _ _ (λ c f. fine c (owes_apart source bytes c f)) (λ p c f. found c f.answer) b g) a h
+proof_bad s source budget a h = of_steps Fine _ _ (λ b g. fine b (alone_apart s source b g)) (λ bytes b g. of_steps Fine _ _ (λ c f. fine c (owes_apart source bytes c f)) (λ p c f. found c f.answer) b g) a h
 
 saved_apart : (name saved : List ℕ) (a : Answer) (v : Saving) (status : ℕ) (k : Sinks) → Apart a → Saves name saved a v status k → status ≢ 13
 saved_apart name saved a v status k apart (saves.whole is shown) = shown_apart a status k apart shown

@@ -17,6 +17,7 @@ use Rattle.wy_top.specs.wy_gen_laws.programs.Programs.{IsStuck}
 use Rattle.wy_top.specs.wy_mach_run.sound.Runs.{RunsRightly}
 use Rattle.wy_top.specs.wy_code_spec.step.Step.{State, Runs, Ended, Stuck}
 use Rattle.wy_headline.proofs.AcceptedLemmas.{sources_rightly}
+use Rattle.wy_top.proofs.wy_link_load_proofs.AloneLemmas.{takes_nothing}
 use Rattle.wy_top.specs.wy_top_answers.supplied.Certificates.{certificates}
 use Rattle.wy_top.specs.Acceptance.{Acceptance, IsAccepted, accepts_file, accepts_source}
 use Rattle.wy_top.specs.Going.{AcceptedRunsGo}
@@ -63,7 +64,7 @@ accepts_bytes s source cert budget bytes a h =
     kept s cert budget bytes g.value a f.value (record { owes = f.came; given = g.came; accepted = g.then.0; holds = g.then.1 })
 
 accepts_in : (s : Setting) (source cert : List ℕ) (budget : ℕ) (a : Acceptance) → accepts_file s source cert budget stated (Ok a) → AcceptsFile s source cert budget a
-accepts_in s source cert budget a h = let f = both_came _ _ a h in record { bytes = f.value; loads = f.came; accepts = accepts_bytes s source cert budget f.value a f.then }
+accepts_in s source cert budget a h = let f = both_came _ _ a h in record { bytes = f.value; alone = takes_nothing s source f.value f.came; accepts = accepts_bytes s source cert budget f.value a f.then }
 
 pub run_of_steps : (s : Setting) (source cert name arguments : List ℕ) (budget : ℕ) (l : Launch) → run_steps s source cert name arguments budget stated (Ok l) → IsRunOf s source cert name arguments budget l
 run_of_steps s source cert name arguments budget l h = let f = both_came _ _ l h in record { acceptance = f.value; file = accepts_in s source cert budget f.value f.came; launched = f.then }

@@ -1,6 +1,6 @@
 -- Which program was started, and how it came to be accepted.
 use Rattle.std.specs.Prelude.{ℕ, List, Ok}
-use Rattle.wy_top.specs.wy_top_answers.Loading.{Loads, source_limit}
+use Rattle.wy_top.specs.wy_link_load.Alone.{IsAlone}
 use Rattle.wy_top.specs.wy_top_answers.Steps.{Setting}
 use Rattle.wy_top.specs.wy_cert.Steps.{Certificates}
 use Rattle.wy_sound.specs.wy_vc_laws.shown.Certified.{AllHold}
@@ -19,10 +19,10 @@ pub record AcceptsBytes (s : Setting) (cert : List ℕ) (budget : ℕ) (bytes : 
   pub accepted : IsAccepted cert a.program certs budget a
   pub holds : AllHold (conditions_of a.program)
 
--- the source in this file is
+-- the source in this file is, and it imports nothing
 pub record AcceptsFile (s : Setting) (source cert : List ℕ) (budget : ℕ) (a : Acceptance) : Type 0 where
   pub bytes : List ℕ
-  pub loads : Loads s source source_limit bytes
+  pub alone : IsAlone s source bytes
   pub accepts : AcceptsBytes s cert budget bytes a
 
 -- the accepted source in this file was started from the entry of this name on the values that this text spells, which meet it

@@ -1,6 +1,6 @@
 -- The line of a fault at its place.
 use Rattle.std.proofs.Common.{◌≡◌, ◌∙◌, ℕ, List, ap}
-use Rattle.wy_parse_front.specs.Places.{place_of}
+use Rattle.wy_link_load.specs.wy_parse_front.Places.{place_of}
 use Rattle.wy_top_answers.specs.report.Lines.{source_fault}
 
 -- the line at what was found to be the place of an offset, with a word

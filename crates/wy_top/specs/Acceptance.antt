@@ -1,7 +1,7 @@
 -- When is a program accepted? For each of its conditions a valid certificate was supplied, or its search closes all leaves within the budget.
 use Rattle.std.specs.Prelude.{◌≡◌, ◌&&◌, ℕ, List, [], ◌∷◌, ◌++◌, Bool, true, false, Ok, Err}
 use Rattle.wy_top_answers.specs.Answers.{refused, told}
-use Rattle.wy_top_answers.specs.Loading.{loaded, source_limit}
+use Rattle.wy_link_load.specs.Alone.{loads_alone}
 use Rattle.wy_top_answers.specs.Steps.{Came, Sense, stated, due, Setting, and_then, both, done}
 use Rattle.wy_top_answers.specs.declared.answer.Answer.{Answer}
 use Rattle.wy_cert.specs.Steps.{Certificates}
@@ -69,9 +69,9 @@ accepts_with s name cert budget bytes p = and_then (both (certificates s cert (c
 abbrev pub accepts_source : Setting → List ℕ → List ℕ → ℕ → List ℕ → Sense → Came Acceptance → Type 0
 accepts_source s name cert budget bytes = and_then (owes name bytes) (accepts_with s name cert budget bytes)
 
--- the file with the source
+-- the file with the source, which imports nothing
 abbrev pub accepts_file : Setting → List ℕ → List ℕ → ℕ → Sense → Came Acceptance → Type 0
-accepts_file s name cert budget = and_then (both (loaded s name source_limit)) (accepts_source s name cert budget)
+accepts_file s name cert budget = and_then (loads_alone s name) (accepts_source s name cert budget)
 
 -- how many conditions were accepted, and the lines for certificates that aren't valid
 abbrev pub checked_answer : Acceptance → Answer

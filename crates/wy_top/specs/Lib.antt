@@ -40,6 +40,7 @@ pub use Rattle.wy_gen_sources.specs.wy_code_spec as wy_code_spec
 pub use Rattle.wy_mach_run.specs.wy_eval_exprs as wy_eval_exprs
 pub use Rattle.wy_gen_sources.specs.wy_gen_laws as wy_gen_laws
 pub use Rattle.wy_gen_sources.specs as wy_gen_sources
+pub use Rattle.wy_link_load.specs as wy_link_load
 pub use Rattle.wy_mach_run.specs.wy_mach as wy_mach
 pub use Rattle.wy_mach_run.specs as wy_mach_run
 pub use Rattle.wy_top_answers.specs as wy_top_answers

@@ -1,8 +1,8 @@
 -- What does the command `prove` make of a source? The verdicts on its conditions, without certificates, and a file of those that it found.
 use Rattle.std.specs.Prelude.{◌≡◌, ◌⊎◌, ℕ, List, [], ◌∷◌, length, Bool, true, false, Ok, Err}
 use Rattle.wy_top_answers.specs.Answers.{refused, written}
-use Rattle.wy_top_answers.specs.Loading.{Loads, loaded, source_limit}
-use Rattle.wy_top_answers.specs.Steps.{Came, Sense, stated, due, Setting, and_then, both}
+use Rattle.wy_link_load.specs.Alone.{IsAlone, loads_alone}
+use Rattle.wy_top_answers.specs.Steps.{Came, Sense, stated, due, Setting, and_then}
 use Rattle.wy_top_answers.specs.Texts.{not_certified}
 use Rattle.wy_top_answers.specs.declared.answer.Answer.{Answer}
 use Rattle.wy_cert.specs.File.{ReadsFile}
@@ -56,7 +56,7 @@ abbrev pub proves_source : List ℕ → ℕ → List ℕ → Sense → Came Answ
 proves_source name budget bytes = and_then (owes name bytes) (λ p. judges name bytes p budget)
 
 abbrev pub proves_file : Setting → List ℕ → ℕ → Sense → Came Answer → Type 0
-proves_file s name budget = and_then (both (loaded s name source_limit)) (proves_source name budget)
+proves_file s name budget = and_then (loads_alone s name) (proves_source name budget)
 
 -- ---- what is saved
 
@@ -78,5 +78,5 @@ pub record ProvesBytes (bytes : List ℕ) (budget : ℕ) (text : List ℕ) : Typ
 -- it is one of the program of the source in this file
 pub record Proves (s : Setting) (name : List ℕ) (budget : ℕ) (text : List ℕ) : Type 0 where
   pub bytes : List ℕ
-  pub loads : Loads s name source_limit bytes
+  pub alone : IsAlone s name bytes
   pub proves : ProvesBytes bytes budget text

@@ -4,9 +4,10 @@ use Rattle.wy_top.specs.Programs.{lists}
 use Rattle.wy_top_answers.specs.Answers.{written}
 use Rattle.wy_top_answers.specs.Calls.{Faults, called}
 use Rattle.wy_top_answers.specs.Loading.{loaded, source_limit}
+use Rattle.wy_link_load.specs.Alone.{loads_alone}
 use Rattle.wy_top_answers.specs.Steps.{Came, Sense, stated, due, Setting, and_then, both, done}
 use Rattle.wy_top_answers.specs.declared.answer.Answer.{Answer}
-use Rattle.wy_parse_front.specs.Places.{place_of}
+use Rattle.wy_link_load.specs.wy_parse_front.Places.{place_of}
 use Rattle.wy_top_answers.specs.report.Lines.{source_fault}
 use Rattle.wy_top_source.specs.texts.Refusals.{is_no_memory, offset, word}
 use Rattle.wy_top_source.specs.texts.Refusal.{Refusal}
@@ -43,9 +44,15 @@ text kind_of.Layout name bytes = program_text Layout name bytes
 text kind_of.Listing name bytes = program_text Listing name bytes
 text kind_of.Conditions name bytes = lists name bytes
 
--- that of the source in a file
+-- the source of a layout is the file alone, whatever it imports; that of other texts imports nothing
+abbrev pub source_for : Setting → Text → List ℕ → Sense → Came (List ℕ) → Type 0
+source_for s kind_of.Layout name = both (loaded s name source_limit)
+source_for s kind_of.Listing name = loads_alone s name
+source_for s kind_of.Conditions name = loads_alone s name
+
+-- the text of the source in a file
 abbrev pub text_in : Setting → Text → List ℕ → Sense → Came (List ℕ) → Type 0
-text_in s kind name = and_then (both (loaded s name source_limit)) (λ bytes. text kind name bytes)
+text_in s kind name = and_then (source_for s kind name) (λ bytes. text kind name bytes)
 
 -- it is written
 abbrev pub text_steps : Setting → Text → List ℕ → Sense → Came Answer → Type 0

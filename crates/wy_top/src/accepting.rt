@@ -20,9 +20,10 @@ use std::alloc::Global;
 use wy_cert::Certs;
 use wy_data::Bytes;
 use wy_flow_spec::typing::Typed;
+use wy_link_load::load_alone;
 use wy_port::Files;
 use wy_top_answers::supplied::certificates;
-use wy_top_answers::{Answer, SOURCE_LIMIT, load, no_memory};
+use wy_top_answers::{Answer, no_memory};
 
 /// A program for each condition of which a valid certificate was supplied, or the search closed all leaves.
 #[derive(Drop)]
@@ -168,7 +169,7 @@ pub fn accept_source<F: Files>(
     }
 }
 
-/// Likewise for the source in a file.
+/// Likewise for the source in a file, which imports nothing.
 pub fn accept_file<F: Files>(
     alloc: Global,
     name: &str,
@@ -183,7 +184,7 @@ pub fn accept_file<F: Files>(
     ensures miss_count { F.misses files.old ≤ F.misses files.new }
     ensures save_count { F.save_faults files.new ≡ F.save_faults files.old }
 {
-    match load(alloc, name, SOURCE_LIMIT, files) {
+    match load_alone(alloc, name, files) {
         Ok(bytes) => accept_source(alloc, name, cert, bytes.as_slice(), budget, files),
         Err(answer) => Err(answer),
     }

@@ -24,10 +24,11 @@ use wy_top_words::{Words, WordsFault, read_words};
 /// Does what `words` say, over `files`, and answers the exit status. Results go to `out`, refusals to `err`.
 ///
 /// The words are those behind the program's own name. The steps are taken in this order, and the first that fails ends the
-/// call: the words; the source is loaded and read (text, names, types, assignment) and its conditions are listed; the
-/// certificates are loaded and read; each condition is judged, by the certificate that is supplied for it or else by a search;
-/// the entry, the argument text, the number, the types and the requires clauses of the arguments; the run. Each command takes
-/// those of these steps that it needs.
+/// call: the words; the source is loaded with all that it imports, and refused where it imports anything, since programs of
+/// several files aren't linked; it is read (text, names, types, assignment) and its conditions are listed; the certificates
+/// are loaded and read; each condition is judged, by the certificate that is supplied for it or else by a search; the entry,
+/// the argument text, the number, the types and the requires clauses of the arguments; the run. Each command takes those of
+/// these steps that it needs. `fmt` loads no imports, and prints them.
 ///
 /// | status | when |
 /// |---|---|

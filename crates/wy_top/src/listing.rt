@@ -1,13 +1,13 @@
 //! The text of a list of conditions.
 ghost use Rattle.std.specs.Prelude.{◌≡◌, ◌<◌, ◌^◌, All, IfOk, OnOk, ◌++◌, ℕ, List, length, map};
 ghost use Rattle.wy_check.specs.Within.{IsWithin};
-ghost use Rattle.wy_parse_front.specs.lines.Starts.{AreLines};
+ghost use Rattle.wy_link_load.specs.wy_parse_front.lines.Starts.{AreLines};
 ghost use Rattle.wy_top_answers.specs.report.Shown.{AreShown};
 ghost use Rattle.wy_top.specs.Owed as spec;
 ghost use Rattle.wy_vc.specs.Told.{seen_cond};
 
 use std::alloc::Global;
-use wy_parse_front::lines::Lines;
+use wy_link_load::Lines;
 use wy_term::{Cond, Conds, NoMemory, Terms};
 use wy_top_answers::report::{Shown, listed, nothing_shown};
 

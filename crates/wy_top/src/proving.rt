@@ -21,10 +21,11 @@ use std::alloc::Global;
 use wy_cert::Certs;
 use wy_cert::writing::write_certs;
 use wy_data::Bytes;
+use wy_link_load::load_alone;
 use wy_port::Files;
 use wy_term::NoMemory;
 use wy_top_answers::report::accepted as accepted_line;
-use wy_top_answers::{Answer, SOURCE_LIMIT, load, no_memory, refusal};
+use wy_top_answers::{Answer, no_memory, refusal};
 
 /// What `prove` saves, and what it answers behind the save.
 #[derive(Drop)]
@@ -169,7 +170,7 @@ pub fn prove_file<F: Files>(
     ensures miss_count { F.misses files.old ≤ F.misses files.new }
     ensures save_count { F.save_faults files.new ≡ F.save_faults files.old }
 {
-    match load(alloc, name, SOURCE_LIMIT, files) {
+    match load_alone(alloc, name, files) {
         Ok(bytes) => prove_source(alloc, name, bytes.as_slice(), budget),
         Err(answer) => Err(answer),
     }

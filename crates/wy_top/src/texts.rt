@@ -2,6 +2,7 @@
 ghost use Rattle.std.specs.Prelude.{◌≡◌, ◌≤◌, ◌<◌, ◌^◌, ℕ, List, length, IfOk};
 ghost use Rattle.std.specs.String.{string_bytes};
 ghost use Rattle.wy_top_answers.specs.Calls.{AnswersFault};
+ghost use Rattle.wy_top_answers.specs.Loading.{source_limit};
 ghost use Rattle.wy_top_answers.specs.Steps.{Answers, During, Gives, Setting};
 ghost use Rattle.wy_top_source.specs.texts.Refusals as refusals;
 ghost use Rattle.wy_top.specs.Texts as spec;
@@ -9,7 +10,7 @@ ghost use Rattle.wy_top.specs.Texts as spec;
 use crate::owing::listed;
 use std::alloc::{AllocError, Global};
 use wy_data::Bytes;
-use wy_parse_front::locate;
+use wy_link_load::{load_alone, locate};
 use wy_port::Files;
 use wy_top_answers::report::source_fault;
 use wy_top_answers::{Answer, SOURCE_LIMIT, load, no_memory, refusal};
@@ -67,6 +68,27 @@ fn read_text(alloc: Global, kind: Text, name: &str, bytes: &[u8]) -> Result<Byte
     }
 }
 
+// The bytes of the source in this file: for a layout as they are, and else of one that imports nothing.
+fn source_for<F: Files>(
+    alloc: Global,
+    kind: Text,
+    name: &str,
+    files: &mut F,
+) -> Result<Bytes, Answer>
+    ensures gives { During (F.told files.old) (F.load_faults files.old) (F.load_faults files.new) (F.misses files.old) (F.misses files.new) (λ s. Gives s (spec.source_for s kind name.now) result) }
+    ensures within { IfOk result (λ bytes. length bytes ≤ source_limit) }
+    ensures kept { (other : List ℕ) → F.told files.new other ≡ F.told files.old other }
+    ensures load_count { F.load_faults files.old ≤ F.load_faults files.new }
+    ensures miss_count { F.misses files.old ≤ F.misses files.new }
+    ensures save_count { F.save_faults files.new ≡ F.save_faults files.old }
+{
+    match kind {
+        Text::Layout => load(alloc, name, SOURCE_LIMIT, files),
+        Text::Listing => load_alone(alloc, name, files),
+        Text::Conditions => load_alone(alloc, name, files),
+    }
+}
+
 // The text of the source in this file.
 fn text_in<F: Files>(alloc: Global, kind: Text, name: &str, files: &mut F) -> Result<Bytes, Answer>
     ensures gives { During (F.told files.old) (F.load_faults files.old) (F.load_faults files.new) (F.misses files.old) (F.misses files.new) (λ s. Gives s (spec.text_in s kind name.now) result) }
@@ -75,7 +97,7 @@ fn text_in<F: Files>(alloc: Global, kind: Text, name: &str, files: &mut F) -> Re
     ensures miss_count { F.misses files.old ≤ F.misses files.new }
     ensures save_count { F.save_faults files.new ≡ F.save_faults files.old }
 {
-    match load(alloc, name, SOURCE_LIMIT, files) {
+    match source_for(alloc, kind, name, files) {
         Ok(bytes) => read_text(alloc, kind, name, bytes.as_slice()),
         Err(answer) => Err(answer),
     }

@@ -1,6 +1,6 @@
 use Rattle.std.proofs.Common.{ℕ, List, subst}
-use Rattle.wy_top_answers.specs.Loading.{loaded, source_limit}
-use Rattle.wy_top_answers.specs.Steps.{both, came, Gives}
+use Rattle.wy_link_load.specs.Alone.{loads_alone}
+use Rattle.wy_top_answers.specs.Steps.{came, Gives}
 use Rattle.wy_top_answers.proofs.DuringLemmas.{during_first, during_second}
 use Rattle.wy_top_answers.proofs.StepLemmas.{goes, ends_there}
 use Rattle.wy_top.specs.Acceptance.{accepts_source}
@@ -11,10 +11,10 @@ pub returns-in-Ok-clause-gives : goal.returns-in-Ok-clause-gives
 returns-in-Ok-clause-gives g c = λ s during.
     let first = during_first s _ _ _ _ _ _ _ during c.in-Ok.ensures.load_count c.accept_source.ensures.load_count c.in-Ok.ensures.miss_count c.accept_source.ensures.miss_count in
     let second = during_second s _ _ _ _ _ _ _ _ during c.in-Ok.ensures.kept c.in-Ok.ensures.load_count c.accept_source.ensures.load_count c.in-Ok.ensures.miss_count c.accept_source.ensures.miss_count in
-    goes s (both (loaded s c.args.name.now source_limit)) (accepts_source s c.args.name.now c.args.cert.now c.args.budget) c.in-Ok.bytes (came acceptance_in c.accept_source.result)
+    goes s (loads_alone s c.args.name.now) (accepts_source s c.args.name.now c.args.cert.now c.args.budget) c.in-Ok.bytes (came acceptance_in c.accept_source.result)
     (c.in-Ok.ensures.gives s first)
     (subst (λ (b : List ℕ). Gives s (accepts_source s c.args.name.now c.args.cert.now c.args.budget b) (came acceptance_in c.accept_source.result)) c.as_slice.ensures.value (c.accept_source.ensures.gives s second))
 
 pub returns-in-Err-clause-gives : goal.returns-in-Err-clause-gives
 returns-in-Err-clause-gives g c = λ s during.
-    ends_there s (both (loaded s c.args.name.now source_limit)) (accepts_source s c.args.name.now c.args.cert.now c.args.budget) c.in-Err.answer (c.in-Err.ensures.gives s during)
+    ends_there s (loads_alone s c.args.name.now) (accepts_source s c.args.name.now c.args.cert.now c.args.budget) c.in-Err.answer (c.in-Err.ensures.gives s during)
