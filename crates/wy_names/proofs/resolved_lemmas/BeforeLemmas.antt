@@ -17,6 +17,7 @@ use Rattle.wy_names_expand.specs.Sizes.{Known, arg_spot, in_ty, in_field_tys, in
 use Rattle.wy_names.proofs.resolved_lemmas.NotedLemmas.{noted_none}
 use Rattle.wy_names.proofs.resolved_lemmas.BindLemmas as names
 use Rattle.wy_names.proofs.resolved_lemmas.ExpandLemmas.{before_expr}
+pub use Rattle.wy_names.proofs.resolved_lemmas.ExpandLemmas.{before_args, before_exprs, before_fields, before_ranges}
 
 mutual
   pub before_type : (s : Spot) (t : Ty) (m : Measure) → (in_ty s t m).found ≡ None → m.found ≡ None

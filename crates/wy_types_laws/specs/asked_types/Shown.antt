@@ -6,8 +6,8 @@ use Rattle.wy_value.specs.Datum as datum
 use Rattle.wy_value.specs.Values.{IsValue}
 use Rattle.wy_core.specs.Types.{Ty}
 use Rattle.wy_types.specs.Names.{Declared, Up}
-use Rattle.wy_subtype_parts.specs.Items.{IsItem}
-use Rattle.wy_subtype_parts.specs.Fields.{value_at, has_value_at}
+pub use Rattle.wy_subtype_parts.specs.Items.{IsItem}
+pub use Rattle.wy_subtype_parts.specs.Fields.{value_at, has_value_at}
 
 -- some value of the language is in the one type and not in the other
 abbrev pub IsOutside : List Declared → Ty → Ty → Type 0
