@@ -1,0 +1,10 @@
+use Rattle.std.proofs.Common.{◌≡◌, ◌++◌, drop, map, length, ◌-◌}
+use Rattle.wy_value.specs.Seen.{seen}
+use Rattle.wy_core.specs.CoreSeen.{seen_ty}
+use Rattle.wy_types.specs.Names.{types_of}
+use Rattle.wy_probe.specs.Tables.{data_in, rows_in, table_of, tables_of}
+use Rattle.wy_value.specs.Datum.{field}
+use Rattle.wy_probe.proofs.records.led_by.Given as goal
+
+abbrev pub invariant-loop-rest : goal.invariant-loop-rest
+invariant-loop-rest l = rows_in l.rows ++ map (field l.name (seen l.value)) (rows_in (drop l.rest-index l.rests)) ≡ rows_in l.initial.rows ++ map (field l.name (seen l.value)) (rows_in l.rests)
