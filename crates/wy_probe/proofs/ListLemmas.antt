@@ -1,5 +1,5 @@
 -- Loops that put what each element comes to behind what is made, and what is made of values.
-use Rattle.std.proofs.Common.{◌≡◌, ◌≤◌, ◌<◌, ◌+◌, ◌++◌, ◌||◌, ℕ, Bool, true, false, cond, List, [], ◌∷◌, map, drop, length, get_or, refl, ap, sym, ◌∙◌, append_assoc, append-nil}
+use Rattle.std.proofs.Common.{◌≡◌, ◌≤◌, ◌<◌, ◌+◌, ◌++◌, ◌||◌, ℕ, Bool, true, false, cond, List, [], ◌∷◌, map, drop, length, get_or, ap, sym, ◌∙◌, append_assoc, append-nil}
 use Rattle.wy_lemmas.proofs.Lists.{next_of, drop_end, map_pushed}
 use Rattle.wy_value.specs.Datum.{Datum, Record, Fields, field, item, no_items}
 use Rattle.wy_value.specs.Datum as datum
@@ -11,7 +11,7 @@ use Rattle.wy_sem.specs.Operations.{same}
 use Rattle.wy_core.specs.Types.{Ty}
 use Rattle.wy_types.specs.Names.{Declared, Up}
 use Rattle.wy_probe.specs.Candidates.{beside, is_among, one_item, those_in, two_items}
-use Rattle.wy_probe.specs.Tables.{data_in, rows_in}
+use Rattle.wy_probe.specs.Tables.{data_in}
 
 -- ---- loops
 

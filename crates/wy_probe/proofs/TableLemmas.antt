@@ -1,5 +1,5 @@
 -- The tables of declared types have the candidates of each type.
-use Rattle.std.proofs.Common.{◌≡◌, ◌≤◌, ◌<◌, ◌⊎◌, inl, inr, ◌+◌, ◌-◌, ◌++◌, ℕ, zero, suc, List, [], ◌∷◌, map, take, length, get_or, cond, refl, ap, sym, ◌∙◌, arith}
+use Rattle.std.proofs.Common.{◌≡◌, ◌≤◌, ◌<◌, ◌⊎◌, inl, inr, ◌+◌, ◌-◌, ℕ, zero, suc, List, [], ◌∷◌, map, take, length, refl, ap, sym, ◌∙◌, arith}
 use Rattle.std.specs.Prelude.{slice_get}
 use Rattle.std.proofs.lemmas.List.{length-map, take_all, take-take, take-map, take-append-le, length-take-le}
 use Rattle.std.proofs.lemmas.Bool.{cases_lt}
@@ -7,7 +7,7 @@ use Rattle.wy_value.specs.Datum.{Datum, Record, Fields, field, no_fields}
 use Rattle.wy_core.specs.Types.{Ty, NullTy, BoolTy, IntTy, AnyTy, VoidTy, RecordTy, ArrayTy, UnionTy, InterTy, NotTy, NamedTy, NormalTy, FieldTys, NoFieldTys, MoreFieldTys}
 use Rattle.wy_types.specs.Names.{Declared}
 use Rattle.wy_lemmas.proofs.Equations.{both_same}
-use Rattle.wy_probe.specs.Candidates.{anything, arrays, candidates, choices, few, joined, most, no_array, no_record, those_in, type_of, values_by, values_named, values_with, with_field}
+use Rattle.wy_probe.specs.Candidates.{arrays, candidates, choices, few, joined, most, no_array, no_record, those_in, type_of, values_by, values_named, values_with, with_field}
 use Rattle.wy_probe.specs.Tables.{Table, array_by, at, by_tables, deeper, next_table, no_lists, record_by, rounds, row_choices, tables_for}
 
 -- ---- values that are known in two ways

@@ -1,8 +1,8 @@
 -- One tuple after another: they come in order.
-use Rattle.std.proofs.Common.{◌≡◌, ◌≢◌, ◌<◌, ◌≤◌, ℕ, zero, suc, ◌+◌, ◌-◌, List, [], ◌∷◌, ◌++◌, map, take, Bool, true, false, cond, ◌||◌, ◌&&◌, not, Option, Some, None, refl, sym, ap, ap₂, ◌∙◌, subst, arith}
+use Rattle.std.proofs.Common.{◌≡◌, ◌<◌, ◌≤◌, ℕ, zero, suc, ◌+◌, ◌-◌, List, [], ◌∷◌, ◌++◌, map, take, Bool, true, false, cond, ◌||◌, ◌&&◌, not, Option, Some, None, refl, sym, ap, ap₂, ◌∙◌, subst, arith}
 use Rattle.std.specs.Prelude.{nat_lt}
 use Rattle.wy_lemmas.proofs.Choices.{by_truth, lt_true, lt_false, less_is}
-use Rattle.wy_probe.specs.Tuples.{ComeInOrder, all_tuples, first_one, first_tuples, greatest_sum, has_empty, is_zero, least, led_by, next_alike, next_tuple, or_else, risen, sum_of, tuples_from, turned, with_first, with_sum, with_sums, zeros}
+use Rattle.wy_probe.specs.Tuples.{ComeInOrder, all_tuples, first_tuples, greatest_sum, has_empty, is_zero, least, led_by, next_alike, next_tuple, or_else, risen, sum_of, tuples_from, turned, with_first, with_sum, with_sums, zeros}
 
 -- from the first, if there is one, each is the next of the one before, up to the last, and of each this holds
 pub data Runs (f : List ℕ → Option (List ℕ)) (P : List ℕ → Type 0) : Option (List ℕ) → List (List ℕ) → Type 0 where

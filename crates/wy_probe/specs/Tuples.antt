@@ -1,5 +1,5 @@
 -- In which order are values put together into arguments? A tuple is written by the positions of its values, from 0, in lists of these lengths.
-use Rattle.std.specs.Prelude.{◌≡◌, ◌<◌, ℕ, zero, suc, ◌+◌, ◌-◌, List, [], ◌∷◌, ◌++◌, map, take, Bool, true, false, cond, ◌||◌, ◌&&◌, not, Option, Some, None, nat_lt}
+use Rattle.std.specs.Prelude.{◌≡◌, ◌<◌, ℕ, zero, suc, ◌+◌, ◌-◌, List, [], ◌∷◌, ◌++◌, map, take, Bool, true, false, cond, ◌||◌, ◌&&◌, Option, Some, None, nat_lt}
 
 -- ---- the order: by the sum of the positions, and then by the first position that differs
 

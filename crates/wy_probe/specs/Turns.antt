@@ -1,6 +1,6 @@
 -- Where does a tuple turn to the next one of its sum?
 use Rattle.std.specs.Prelude.{◌≡◌, ◌<◌, ◌≤◌, ◌-◌, ◌++◌, ◌∷◌, ℕ, suc, List, Some, drop, take, length, slice_index_or}
-use Rattle.wy_probe.specs.Tuples.{greatest_sum, least, next_alike, sum_of}
+use Rattle.wy_probe.specs.Tuples.{greatest_sum, least, next_alike}
 use Rattle.wy_probe.specs.declared.tuples.Turn.{Turn}
 
 -- at this place the position rises, and behind it stand the first ones with what is left of the sum

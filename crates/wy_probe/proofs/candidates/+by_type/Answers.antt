@@ -1,4 +1,4 @@
-use Rattle.std.proofs.Common.{◌≡◌, ◌<◌, ◌+◌, ◌-◌, ◌∙◌, IfOk, ap, drop, length, map, sym, take, arith}
+use Rattle.std.proofs.Common.{◌≡◌, ◌-◌, ◌∙◌, ap, drop, length, map, sym, take, arith}
 use Rattle.std.proofs.lemmas.List.{nil_from_length}
 use Rattle.wy_lemmas.proofs.Options.{if_ok}
 use Rattle.wy_value.specs.Datum.{Record}

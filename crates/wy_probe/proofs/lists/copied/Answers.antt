@@ -1,5 +1,5 @@
 use Rattle.std.proofs.Common.{◌∷◌, [], refl, arith}
-use Rattle.std.proofs.Common.{◌≡◌, ◌++◌, ◌≤◌, length, ◌∙◌, ap}
+use Rattle.std.proofs.Common.{◌++◌, ◌∙◌, ap}
 use Rattle.wy_probe.proofs.ListLemmas.{ends, turn}
 use Rattle.wy_probe.proofs.lists.copied.Goals as goal
 

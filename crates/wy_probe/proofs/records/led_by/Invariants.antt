@@ -1,8 +1,6 @@
-use Rattle.std.proofs.Common.{◌≡◌, ◌++◌, drop, map, length, ◌-◌}
+use Rattle.std.proofs.Common.{◌≡◌, ◌++◌, drop, map}
 use Rattle.wy_value.specs.Seen.{seen}
-use Rattle.wy_core.specs.CoreSeen.{seen_ty}
-use Rattle.wy_types.specs.Names.{types_of}
-use Rattle.wy_probe.specs.Tables.{data_in, rows_in, table_of, tables_of}
+use Rattle.wy_probe.specs.Tables.{rows_in}
 use Rattle.wy_value.specs.Datum.{field}
 use Rattle.wy_probe.proofs.records.led_by.Given as goal
 

@@ -1,8 +1,4 @@
-use Rattle.std.proofs.Common.{◌≡◌, ◌++◌, drop, map, length, ◌-◌}
-use Rattle.wy_value.specs.Seen.{seen}
-use Rattle.wy_core.specs.CoreSeen.{seen_ty}
-use Rattle.wy_types.specs.Names.{types_of}
-use Rattle.wy_probe.specs.Tables.{data_in, rows_in, table_of, tables_of}
+use Rattle.std.proofs.Common.{◌≡◌, ◌++◌, drop}
 use Rattle.wy_probe.proofs.records.with_rest.Given as goal
 
 abbrev pub invariant-loop-part : goal.invariant-loop-part

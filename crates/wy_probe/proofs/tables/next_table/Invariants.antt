@@ -1,8 +1,6 @@
-use Rattle.std.proofs.Common.{◌≡◌, ◌++◌, drop, map, length, ◌-◌}
-use Rattle.wy_value.specs.Seen.{seen}
-use Rattle.wy_core.specs.CoreSeen.{seen_ty}
+use Rattle.std.proofs.Common.{◌≡◌, ◌++◌, drop, map}
 use Rattle.wy_types.specs.Names.{types_of}
-use Rattle.wy_probe.specs.Tables.{data_in, rows_in, table_of, tables_of}
+use Rattle.wy_probe.specs.Tables.{table_of, tables_of}
 use Rattle.wy_types.specs.Names.{seen_declared}
 use Rattle.wy_probe.specs.Tables.{tables_for as next_table}
 use Rattle.wy_probe.proofs.tables.next_table.Given as goal

@@ -1,4 +1,4 @@
-use Rattle.std.proofs.Common.{◌≡◌, ◌∙◌, ◌+◌, ◌≤◌, ap, length, suc, sym, arith}
+use Rattle.std.proofs.Common.{◌≡◌, ◌∙◌, ◌+◌, ap, length, suc, sym, arith}
 use Rattle.wy_lemmas.proofs.Options.{if_ok}
 use Rattle.wy_types.specs.Names.{types_of}
 use Rattle.wy_probe.specs.Tables.{next_table, rounds, table_of, tables_of}

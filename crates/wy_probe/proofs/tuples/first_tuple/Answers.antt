@@ -1,4 +1,4 @@
-use Rattle.std.proofs.Common.{◌≡◌, ◌<◌, ◌+◌, ◌++◌, ℕ, suc, List, [], ◌∷◌, drop, length, ap, ◌∙◌, sym, arith, rules}
+use Rattle.std.proofs.Common.{◌≡◌, ◌<◌, ◌+◌, ◌++◌, suc, [], ◌∷◌, drop, length, ap, ◌∙◌, sym, arith, rules}
 use Rattle.wy_probe.specs.Tuples.{zeros}
 use Rattle.wy_probe.proofs.FitLemmas.{one_between, zeros_at}
 use Rattle.wy_probe.proofs.tuples.first_tuple.Goals as goal

@@ -1,6 +1,6 @@
-use Rattle.std.proofs.Common.{◌≡◌, ◌<◌, ◌≤◌, ◌+◌, ◌-◌, ◌++◌, ℕ, suc, List, [], ◌∷◌, Some, drop, take, length, ap, ◌∙◌, sym, subst, arith, rules}
+use Rattle.std.proofs.Common.{◌≡◌, ◌≤◌, ◌+◌, ◌-◌, ◌++◌, suc, [], ◌∷◌, Some, drop, take, length, ap, ◌∙◌, sym, subst, arith, rules}
 use Rattle.std.specs.Prelude.{slice_index_or}
-use Rattle.wy_probe.specs.Tuples.{Fit, greatest_sum, least, next_alike, next_tuple, or_else, risen, sum_of}
+use Rattle.wy_probe.specs.Tuples.{Fit, greatest_sum, least, or_else, risen, sum_of}
 use Rattle.wy_probe.proofs.FitLemmas.{all_behind, as_long, full_of, least_fits, next_fits, one_between}
 use Rattle.wy_probe.proofs.tuples.next_tuple_of.Goals as goal
 

@@ -1,4 +1,4 @@
-use Rattle.std.proofs.Common.{◌≡◌, ◌<◌, ◌≤◌, ◌-◌, ◌+◌, ℕ, suc, List, true, false, None, drop, length, ap, ◌∙◌, sym, subst, refl, arith, rules}
+use Rattle.std.proofs.Common.{◌≡◌, ◌<◌, ◌-◌, ◌+◌, suc, true, None, drop, length, ap, ◌∙◌, sym, subst, arith, rules}
 use Rattle.std.specs.Prelude.{nat_lt, ◌&&◌, slice_index_or}
 use Rattle.wy_lemmas.proofs.Choices.{both_parts, lt_true}
 use Rattle.wy_probe.specs.Tuples.{greatest_sum, next_alike, sum_of}
