@@ -1,0 +1,12 @@
+-- tuples one after another
+mod TupleLemmas
+-- positions that lie in their lists
+mod FitLemmas
+-- values that are the same
+mod SameLemmas
+-- loops over lists of values
+mod ListLemmas
+-- the tables of declared types have the candidates
+mod TableLemmas
+-- what is made of the tables of parts
+mod CandidateLemmas
