@@ -2,8 +2,8 @@
 use Rattle.std.proofs.Common.{◌≡◌, ◌∙◌, ◌<◌, ◌≤◌, ◌+◌, ℕ, zero, suc, List, [], ◌∷◌, length, drop, get_or, map, Bool, true, false, sym, ap, arith}
 use Rattle.std.specs.Prelude.{◌&&◌, if◌then◌else◌}
 use Rattle.std.proofs.lemmas.List.{drop_all}
-use Rattle.wy_top.specs.Known.{End, count}
-use Rattle.wy_top.specs.Acceptance.{are_closed, is_closed}
+use Rattle.wy_top.specs.Known.{End, count, is_closed}
+use Rattle.wy_top.specs.Acceptance.{are_closed}
 use Rattle.wy_top.specs.Seen.{known, seen_end}
 use Rattle.wy_top.specs.declared.verdict.Verdict.{Verdict}
 

@@ -16,8 +16,8 @@ use Rattle.wy_top_answers.proofs.wy_check_laws_proofs.sound_lemmas.SoundLemmas.{
 use Rattle.wy_term.specs.Condition.{Condition, HoldsAlways}
 use Rattle.wy_prove.proofs.wy_search_laws_proofs.sound_lemmas.FoundLemmas.{found_true}
 use Rattle.wy_top_answers.specs.wy_check_spec.valid.Validity.{first_bad}
-use Rattle.wy_top.specs.Acceptance.{are_closed, is_closed}
-use Rattle.wy_top.specs.Known.{End, EndsSo, IsKnown, IsSearched, Known, OneList, end_of, found, spent, stays_open, supplied}
+use Rattle.wy_top.specs.Acceptance.{are_closed}
+use Rattle.wy_top.specs.Known.{is_closed, End, EndsSo, IsKnown, IsSearched, Known, OneList, end_of, found, spent, stays_open, supplied}
 use Rattle.wy_top.specs.Shown.{ClosedIsTrue, ReadIsTrue}
 
 -- ---- supplied certificates

@@ -1,6 +1,6 @@
 //! Numbers on the command line.
 ghost use Rattle.std.specs.Prelude.{◌≡◌, option_map};
-ghost use Rattle.wy_top_words.specs.CommandLine.{bounded, budget_within, number_of, steps_within};
+ghost use Rattle.wy_top_words.specs.CommandLine.{bounded, budget_within, number_of, steps_within, workers_within};
 ghost use Rattle.wy_top_words.specs.Plain.{text_in};
 
 /// The most digits that a number may have.
@@ -53,5 +53,15 @@ pub fn steps_of(text: Option<&str>) -> Option<u64>
     match text {
         None => Some(10_000_000),
         Some(text) => number_within(text, 0, 1_000_000_000_000),
+    }
+}
+
+/// How many workers judge the conditions of a program: from 1 to 64, and 1 where no number is given.
+pub fn workers_of(text: Option<&str>) -> Option<u64>
+    ensures value { result ≡ workers_within (option_map text_in text.entry) }
+{
+    match text {
+        None => Some(1),
+        Some(text) => number_within(text, 1, 64),
     }
 }

@@ -2,8 +2,8 @@
 use Rattle.std.specs.Prelude.{◌≡◌, ℕ, ◌+◌, suc, List, [], ◌∷◌, Bool, true, false, if◌then◌else◌, Option, Some, None}
 use Rattle.wy_term.specs.Condition.{Condition}
 use Rattle.wy_cert.specs.Steps.{Certificates}
-use Rattle.wy_top_answers.specs.wy_check_spec.judge.Node.{Literal}
-use Rattle.wy_prove.specs.wy_search_spec.Tree as search
+use Rattle.wy_search_spec.specs.wy_check_spec.judge.Node.{Literal}
+use Rattle.wy_search_spec.specs.Tree as search
 use Rattle.wy_check.specs.Verdicts.{certificate_for, verdict_on}
 use Rattle.wy_check.specs.declared.verdict.Verdict.{Verdict}
 use Rattle.wy_check.specs.declared.verdict.Verdict.TheVariants.{Supplied, Missing, Bad}
@@ -75,6 +75,13 @@ is_found supplied = false
 is_found (found leaves) = true
 is_found (stays_open leaf why literals) = false
 is_found spent = false
+
+-- a certificate that was supplied is valid, or the search closed all leaves
+abbrev pub is_closed : End → Bool
+is_closed supplied = true
+is_closed (found leaves) = true
+is_closed (stays_open leaf why literals) = false
+is_closed spent = false
 
 -- how many end so
 abbrev pub count : (End → Bool) → List Known → ℕ

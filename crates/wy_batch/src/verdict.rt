@@ -1,10 +1,9 @@
 //! What is known of a condition.
 ghost use Rattle.std.specs.Prelude.{◌≡◌};
-ghost use Rattle.wy_top.specs.Acceptance as acceptance;
-ghost use Rattle.wy_top.specs.Known as known;
-ghost use Rattle.wy_top.specs.Seen as seen;
+ghost use Rattle.wy_batch.specs.Known as known;
+ghost use Rattle.wy_batch.specs.Seen as seen;
 
-use wy_prove::OpenLeaf;
+use wy_search::OpenLeaf;
 
 /// How it ends with a condition.
 #[derive(Drop)]
@@ -51,7 +50,7 @@ impl End {
 
     /// Whether a valid certificate was supplied, or the search closed all leaves.
     pub fn is_closed(&self) -> bool
-        ensures value { result ≡ acceptance.is_closed (seen.seen_end self.now) }
+        ensures value { result ≡ known.is_closed (seen.seen_end self.now) }
     {
         match self {
             End::Supplied | End::Found { .. } => true,

@@ -1,13 +1,13 @@
 -- What the code's verdicts stand for, and what comes with them.
 use Rattle.std.specs.Prelude.{List, [], ◌∷◌, length, map}
 use Rattle.wy_term.specs.Nodes.{tree_at}
-use Rattle.wy_prove.specs.wy_check_nodes.Seen.{seen_literal, AreOver}
-use Rattle.wy_prove.specs.Seen.{seen_why}
-use Rattle.wy_top.specs.Known as plain
-use Rattle.wy_top.specs.Known.{Known}
-use Rattle.wy_top.specs.declared.verdict.End.{End}
-use Rattle.wy_top.specs.declared.verdict.End.TheVariants.{Supplied, Found, Open, Spent}
-use Rattle.wy_top.specs.declared.verdict.Verdict.{Verdict}
+use Rattle.wy_check_nodes.specs.Seen.{seen_literal, AreOver}
+use Rattle.wy_search.specs.Seen.{seen_why}
+use Rattle.wy_batch.specs.Known as plain
+use Rattle.wy_batch.specs.Known.{Known}
+use Rattle.wy_batch.specs.declared.verdict.End.{End}
+use Rattle.wy_batch.specs.declared.verdict.End.TheVariants.{Supplied, Found, Open, Spent}
+use Rattle.wy_batch.specs.declared.verdict.Verdict.{Verdict}
 
 -- an open leaf's literals are those of its own terms
 abbrev pub seen_end : End → plain.End

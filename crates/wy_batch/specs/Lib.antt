@@ -1,0 +1,8 @@
+-- what public contracts cite
+pub mod Known
+pub mod Seen
+pub mod Judged
+pub mod Working
+-- what functions inside owe each other
+pub mod Bench
+pub mod Index
