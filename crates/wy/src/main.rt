@@ -48,5 +48,5 @@ fn status(rt: &HostRuntime, words: &[String]) -> u8 {
     let mut files = DiskFiles::new(rt);
     let mut out = StdSink::new(rt.stdout());
     let mut err = StdSink::new(rt.stderr());
-    run_words(rt.alloc(), words, &mut files, &mut out, &mut err)
+    run_words(rt, rt.alloc(), words, &mut files, &mut out, &mut err)
 }

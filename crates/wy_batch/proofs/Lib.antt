@@ -1,0 +1,2 @@
+-- passed on to the crates above
+pub use Rattle.wy_check.proofs as wy_check_proofs

@@ -2,8 +2,8 @@
 use Rattle.std.specs.Prelude.{◌≡◌, ℕ, ◌+◌, suc, List, [], ◌∷◌, Bool, true, false, if◌then◌else◌, Option, Some, None}
 use Rattle.wy_term.specs.Condition.{Condition}
 use Rattle.wy_cert.specs.Steps.{Certificates}
-use Rattle.wy_search_spec.specs.wy_check_spec.judge.Node.{Literal}
-use Rattle.wy_search_spec.specs.Tree as search
+use Rattle.wy_search.specs.wy_search_bounds.wy_search_spec.wy_check_spec.judge.Node.{Literal}
+use Rattle.wy_search.specs.wy_search_bounds.wy_search_spec.Tree as search
 use Rattle.wy_check.specs.Verdicts.{certificate_for, verdict_on}
 use Rattle.wy_check.specs.declared.verdict.Verdict.{Verdict}
 use Rattle.wy_check.specs.declared.verdict.Verdict.TheVariants.{Supplied, Missing, Bad}

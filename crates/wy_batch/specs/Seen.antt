@@ -1,7 +1,7 @@
 -- What the code's verdicts stand for, and what comes with them.
 use Rattle.std.specs.Prelude.{List, [], ◌∷◌, length, map}
 use Rattle.wy_term.specs.Nodes.{tree_at}
-use Rattle.wy_check_nodes.specs.Seen.{seen_literal, AreOver}
+use Rattle.wy_search.specs.wy_search_bounds.wy_check_nodes.Seen.{seen_literal, AreOver}
 use Rattle.wy_search.specs.Seen.{seen_why}
 use Rattle.wy_batch.specs.Known as plain
 use Rattle.wy_batch.specs.Known.{Known}

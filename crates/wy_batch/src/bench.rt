@@ -3,7 +3,7 @@ ghost use Rattle.std.specs.Prelude.{nat_eq, ◌≡◌, ◌<◌, ℕ, List, All, 
 ghost use Rattle.std.specs.HashMap.{get};
 ghost use Rattle.wy_batch.specs.Bench.{IsBench};
 ghost use Rattle.wy_check.specs.Within.{IsWithin};
-ghost use Rattle.wy_facts.specs.Seen.{AreBelow, Stays};
+ghost use Rattle.wy_search.specs.wy_search_bounds.wy_facts.Seen.{AreBelow, Stays};
 ghost use Rattle.wy_term.specs.Condition.{condition_of, entry_of};
 ghost use Rattle.wy_term.specs.Nodes.{Plain, tree_at};
 

@@ -1,10 +1,11 @@
 //! The verdicts on all conditions, by several workers.
-ghost use Rattle.std.specs.Prelude.{◌≡◌, ◌≤◌, ◌<◌, [], ℕ, List, All, true, false, length, map, IfOk};
+ghost use Rattle.std.specs.Prelude.{◌≡◌, ◌≤◌, ◌++◌, List, All, length, map, IfOk};
 ghost use Rattle.std.specs.Thread.{IsSync};
-ghost use Rattle.wy_batch.specs.Judged.{conditions_in, AreJudged, AreVerdictsAt};
+ghost use Rattle.wy_batch.specs.Judged.{conditions_in, AreJudged};
 ghost use Rattle.wy_batch.specs.Known.{AreKnown, Known};
 ghost use Rattle.wy_batch.specs.Seen.{known, NameTerms};
-ghost use Rattle.wy_batch.specs.Working.{seat_after};
+ghost use Rattle.wy_batch.specs.Working.{IsDone, IsTask};
+ghost use Rattle.wy_claim.specs.Seats.{fresh, met};
 ghost use Rattle.wy_cert.specs.Steps.{NameTheirTerms, certificates_of};
 ghost use Rattle.wy_check.specs.Within.{IsWithin};
 
@@ -76,7 +77,7 @@ fn all_judged<R: Threads + Sync, G: Gate + Sync>(
     in_order(alloc, count, drawn)
 }
 
-// The verdicts of as many workers as the seat weighs, each in a thread of its own, with the seat that met all others.
+// The verdicts of so many workers, each in a thread of its own, with the seat that met all others.
 fn worked<R: Threads + Sync, G: Gate + Sync>(
     rt: &R,
     alloc: Global,
@@ -88,16 +89,10 @@ fn worked<R: Threads + Sync, G: Gate + Sync>(
     workers: u32,
     gate: &G,
 ) -> Worked
-    requires conds { All (IsWithin (length conds.now.terms)) conds.now.list.items }
-    requires certs { NameTheirTerms certs.now }
-    requires few { length conds.now.list.items ≤ MAX_PIECES }
-    requires pieces { claims.now.pieces ≡ length conds.now.list.items }
-    requires own { seat.counter ≡ claims.now }
-    requires drawn { seat.drawn ≡ [] }
-    requires not_ended { seat.ended ≡ false }
-    requires workers { (1 ≤ workers) × (seat.weight ≡ workers) }
-    ensures seat { IfOk result (λ done. done.0 ≡ seat_after seat (map (λ v. v.0) done.1.items)) }
-    ensures verdicts { IfOk result (λ done. AreVerdictsAt (certificates_of certs.now) budget (conditions_in conds.now) done.1.items) }
+    requires task { IsTask conds.now certs.now claims.now }
+    requires workers { 1 ≤ workers }
+    requires seat { seat ≡ fresh claims.now workers }
+    ensures done { IfOk result (λ done. IsDone conds.now certs.now budget claims.now workers done.0 done.1.items) }
 {
     if workers == 1 {
         let verdicts = work(alloc, conds, certs, budget, claims, &mut seat, gate)?;
@@ -110,20 +105,36 @@ fn worked<R: Threads + Sync, G: Gate + Sync>(
     };
     let (first, second) = join(
         rt,
-        move || worked(rt, alloc, conds, certs, budget, claims, seat, rest, gate),
-        move || worked(rt, alloc, conds, certs, budget, claims, other, half, gate),
+        move || -> Worked
+            requires { IsSync R.row × IsSync G.row × IsTask conds.now certs.now claims.now × (1 ≤ rest)
+                × (seat ≡ fresh claims.now rest) }
+            ensures { IfOk result (λ done. IsDone conds.entry.now certs.entry.now budget claims.entry.now rest done.0 done.1.items) }
+        { worked(rt, alloc, conds, certs, budget, claims, seat, rest, gate) },
+        move || -> Worked
+            requires { IsSync R.row × IsSync G.row × IsTask conds.now certs.now claims.now × (1 ≤ half)
+                × (other ≡ fresh claims.now half) }
+            ensures { IfOk result (λ done. IsDone conds.entry.now certs.entry.now budget claims.entry.now half done.0 done.1.items) }
+        { worked(rt, alloc, conds, certs, budget, claims, other, half, gate) },
     );
-    both(claims, first, second)
+    let (seat, verdicts) = first?;
+    let (other, more) = second?;
+    both(claims, seat, verdicts, other, more)
 }
 
-// What two halves come to together, where neither wants memory.
-fn both(claims: &Claims, first: Worked, second: Worked) -> Worked
+// One seat that met the other, and the verdicts of both.
+fn both(
+    claims: &Claims,
+    mut seat: Seat,
+    mut verdicts: Vec<(u32, Verdict)>,
+    other: Seat,
+    mut more: Vec<(u32, Verdict)>,
+) -> Worked
+    requires own { seat.counter ≡ claims.now }
+    requires other { other.counter ≡ claims.now }
+    ensures seat { IfOk result (λ done. done.0 ≡ met seat other) }
+    ensures verdicts { IfOk result (λ done. done.1.items ≡ verdicts.items ++ more.items) }
 {
-    let (mut seat, mut verdicts) = first?;
-    let (other, more) = second?;
     claims.meet(&mut seat, other);
-    for verdict in more {
-        verdicts.push(verdict)?;
-    }
+    verdicts.append(&mut more)?;
     Ok((seat, verdicts))
 }

@@ -1,21 +1,16 @@
 //! What one worker does.
-ghost use Rattle.std.specs.Prelude.{nat_eq, ◌≡◌, ◌<◌, ◌≤◌, ◌++◌, [], ℕ, List, All, false, length, map, IfOk, OnOk};
-ghost use Rattle.std.specs.HashMap.{get};
-ghost use Rattle.wy_batch.specs.Bench.{IsBench};
-ghost use Rattle.wy_batch.specs.Index.{IsIndex};
+ghost use Rattle.std.specs.Prelude.{◌≡◌, ◌≤◌, All, false, length, IfOk};
 ghost use Rattle.wy_batch.specs.Judged.{conditions_in, AreVerdictsAt, DrewMore};
 ghost use Rattle.wy_cert.specs.Steps.{NameTheirTerms, certificates_of};
 ghost use Rattle.wy_check.specs.Within.{IsWithin};
-ghost use Rattle.wy_claim.specs.Seats.{ended, drew};
-ghost use Rattle.wy_batch.specs.Working.{seat_after};
+ghost use Rattle.wy_batch.specs.Working.{numbers_of, seat_after};
 
-use crate::bench::{Bench, bare_bench};
+use crate::bench::bare_bench;
 use crate::gate::Gate;
 use crate::index::index_of;
 use crate::judging::judged;
 use crate::verdict::Verdict;
 use std::alloc::Global;
-use std::collections::HashMap;
 use wy_cert::Certs;
 use wy_claim::{Claims, MAX_PIECES, Seat};
 use wy_term::{Conds, NoMemory};
@@ -40,7 +35,7 @@ pub fn work<G: Gate + Sync>(
     requires not_ended { seat.old.ended ≡ false }
     requires pieces { claims.now.pieces ≡ length conds.now.list.items }
     requires few { length conds.now.list.items ≤ MAX_PIECES }
-    ensures drawn { IfOk result (λ vs. seat.new ≡ seat_after seat.old (map (λ v. v.0) vs.items)) }
+    ensures drawn { IfOk result (λ vs. seat.new ≡ seat_after seat.old (numbers_of vs.items)) }
     ensures verdicts { IfOk result (λ vs. AreVerdictsAt (certificates_of certs.now) budget (conditions_in conds.now) vs.items) }
     ensures stay { DrewMore seat.old seat.new }
 {

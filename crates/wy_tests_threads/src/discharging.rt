@@ -1,32 +1,11 @@
 //! One worker and many judge all conditions, each once, and side by side.
 use crate::gates::{Drawing, Pair};
+use crate::spelled::{ABS, AREA, conditions, counted};
 use std::alloc::Global;
 use std::sync::atomic::{AtomicBool, Ordering};
 use std::test::Fail;
 use wy_batch::{Claims, End, OpenGate, Verdict, discharge, work};
-use wy_cert::Certs;
-use wy_cert::read_certs;
-use wy_term::Conds;
-use wy_top_source::texts::read_program;
-use wy_vc::conditions;
-
-const AREA: &str = "function area(int w, int h) -> (int r)\nrequires 0 <= w && w <= 1000\nrequires 0 <= h && h <= 1000:\n    return w * h\n";
-
-const ABS: &str = "function abs(int x) -> (int r)\nrequires x > -9223372036854775808\nensures r >= 0:\n    if x < 0:\n        return -x\n    return x\n";
-
-// Of its three conditions the search closes the first and the third, and leaves the second open: nothing bounds x from above.
-const UP: &str = "function up(int x) -> (int r)\nrequires x > 5\nensures r > x:\n    return x + 1\n";
-
-// What the program of a source owes.
-fn conditions_of(alloc: Global, source: &str) -> Option<Conds> {
-    let Ok(typed) = read_program(alloc, source.as_bytes()) else {
-        return None;
-    };
-    match conditions(alloc, &typed) {
-        Ok(conds) => Some(conds),
-        Err(_) => None,
-    }
-}
+use wy_cert::{Certs, read_certs};
 
 fn no_certificates(alloc: Global) -> Certs {
     Certs {
@@ -38,9 +17,18 @@ fn is_found(verdict: &Verdict) -> bool {
     matches!(verdict.end, End::Found { .. }) && verdict.bad_step.is_none()
 }
 
+// Whether it is the verdict on the condition with this number, from 0, of `counted`.
+fn is_counted(number: usize, verdict: &Verdict) -> bool {
+    if number % 3 == 0 {
+        matches!(verdict.end, End::Open(_)) && verdict.bad_step.is_none()
+    } else {
+        is_found(verdict)
+    }
+}
+
 #[test]
 fn two_workers_judge_side_by_side(rt: HostRuntime) -> Result<(), Fail> {
-    let Some(conds) = conditions_of(rt.alloc(), AREA) else {
+    let Ok(conds) = conditions(rt.alloc(), AREA) else {
         panic!(rt; "no conditions")
     };
     assert_eq!(rt; conds.list.len(), 2);
@@ -59,7 +47,7 @@ fn two_workers_judge_side_by_side(rt: HostRuntime) -> Result<(), Fail> {
 
 #[test]
 fn a_worker_draws_while_another_judges(rt: HostRuntime) -> Result<(), Fail> {
-    let Some(conds) = conditions_of(rt.alloc(), ABS) else {
+    let Ok(conds) = conditions(rt.alloc(), ABS) else {
         panic!(rt; "no conditions")
     };
     assert_eq!(rt; conds.list.len(), 4);
@@ -80,5 +68,89 @@ fn a_worker_draws_while_another_judges(rt: HostRuntime) -> Result<(), Fail> {
         assert!(rt; verdicts.len() == 4 && verdicts.iter().all(is_found));
         assert!(rt; (1..5).all(|number| gate.passed(number)), "{}", last);
     }
+    Ok(())
+}
+
+#[test]
+fn verdicts_stand_in_order(rt: HostRuntime) -> Result<(), Fail> {
+    let certs = no_certificates(rt.alloc());
+    for count in [0, 1, 2, 64, 500] {
+        let Ok(conds) = counted(rt.alloc(), count) else {
+            panic!(rt; "no conditions")
+        };
+        for workers in [1, 2, 3, 64] {
+            let Ok(verdicts) = discharge(&rt, rt.alloc(), &conds, &certs, 20, workers, &OpenGate)
+            else {
+                panic!(rt; "memory")
+            };
+            assert_eq!(rt; verdicts.len(), count as usize);
+            for (number, verdict) in verdicts.iter().enumerate() {
+                assert!(rt; is_counted(number, verdict), "{} of {}", number, count);
+            }
+        }
+    }
+    Ok(())
+}
+
+// The second certificate closes its condition, and the first names a literal that isn't there.
+const CERTIFICATES: &str = "wycert 1\ncond 2\nsum 1 1 1 2\ncond 1\nsum 1 9\nend\n";
+
+#[test]
+fn certificates_are_judged_first(rt: HostRuntime) -> Result<(), Fail> {
+    let Ok(conds) = counted(rt.alloc(), 3) else {
+        panic!(rt; "no conditions")
+    };
+    let Ok(certs) = read_certs(rt.alloc(), CERTIFICATES.as_bytes(), 3) else {
+        panic!(rt; "no certificates")
+    };
+    for workers in [1, 2] {
+        let Ok(verdicts) = discharge(&rt, rt.alloc(), &conds, &certs, 20, workers, &OpenGate) else {
+            panic!(rt; "memory")
+        };
+        let [first, second, third] = verdicts.as_slice() else {
+            panic!(rt; "not three")
+        };
+        assert!(rt; first.bad_step == Some(1) && matches!(first.end, End::Open(_)));
+        assert!(rt; second.bad_step.is_none() && matches!(second.end, End::Supplied));
+        assert!(rt; is_found(third));
+    }
+    Ok(())
+}
+
+#[test]
+fn budgets_are_spent(rt: HostRuntime) -> Result<(), Fail> {
+    let Ok(conds) = conditions(rt.alloc(), AREA) else {
+        panic!(rt; "no conditions")
+    };
+    let certs = no_certificates(rt.alloc());
+    let Ok(verdicts) = discharge(&rt, rt.alloc(), &conds, &certs, 0, 2, &OpenGate) else {
+        panic!(rt; "memory")
+    };
+    assert!(rt; verdicts.len() == 2 && verdicts.iter().all(|v| matches!(v.end, End::Spent)));
+    Ok(())
+}
+
+#[test]
+fn a_worker_of_a_callers_own_judges_what_it_draws(rt: HostRuntime) -> Result<(), Fail> {
+    let Ok(conds) = counted(rt.alloc(), 5) else {
+        panic!(rt; "no conditions")
+    };
+    let certs = no_certificates(rt.alloc());
+    let Ok((claims, mut seat)) = Claims::new(rt.alloc(), 5, 2) else {
+        panic!(rt; "memory")
+    };
+    let Ok(mut other) = claims.split(rt.alloc(), &mut seat, 1) else {
+        panic!(rt; "memory")
+    };
+    assert!(rt; claims.draw(&mut other) == Some(0));
+    let Ok(verdicts) = work(rt.alloc(), &conds, &certs, 20, &claims, &mut seat, &OpenGate) else {
+        panic!(rt; "memory")
+    };
+    assert!(rt; seat.has_ended() && verdicts.len() == 4);
+    for (place, (number, verdict)) in verdicts.iter().enumerate() {
+        assert!(rt; *number as usize == place + 1 && is_counted(*number as usize, verdict));
+    }
+    claims.meet(&mut seat, other);
+    claims.close(seat);
     Ok(())
 }

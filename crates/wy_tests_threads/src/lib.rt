@@ -6,4 +6,6 @@ mod discharging;
 #[cfg(test)]
 mod gates;
 #[cfg(test)]
+mod spelled;
+#[cfg(test)]
 mod tests;

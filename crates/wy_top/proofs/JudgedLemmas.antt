@@ -1,11 +1,11 @@
 -- What is known of conditions, one after the other.
 use Rattle.std.proofs.Common.{◌≡◌, ◌∙◌, ◌<◌, ◌≤◌, ◌+◌, ℕ, zero, suc, List, [], ◌∷◌, ◌++◌, All, length, map, take, get_or, Option, Some, None, refl, sym, ap, subst, arith}
 use Rattle.std.proofs.lemmas.List.{length-map}
-use Rattle.wy_check.proofs.StayLemmas.{as_before, condition_stays, conditions_stay}
-use Rattle.wy_check.specs.Verdicts.{certificate_for, verdict_on, verdicts_on}
-use Rattle.wy_check.specs.Within.{IsWithin}
-use Rattle.wy_check.specs.declared.verdict.Verdict.{Verdict as Given}
-use Rattle.wy_check.specs.declared.verdict.Verdict.TheVariants as given
+use Rattle.wy_batch.proofs.wy_check_proofs.StayLemmas.{as_before, condition_stays, conditions_stay}
+use Rattle.wy_batch.specs.wy_check.Verdicts.{certificate_for, verdict_on, verdicts_on}
+use Rattle.wy_batch.specs.wy_check.Within.{IsWithin}
+use Rattle.wy_batch.specs.wy_check.declared.verdict.Verdict.{Verdict as Given}
+use Rattle.wy_batch.specs.wy_check.declared.verdict.Verdict.TheVariants as given
 use Rattle.wy_cert.specs.Steps.{Certificates}
 use Rattle.wy_prove.specs.wy_search_spec.Tree as tree
 use Rattle.wy_prove.specs.Seen as searching
@@ -15,12 +15,12 @@ use Rattle.wy_prove.specs.Searched.TheVariants as search
 use Rattle.wy_term.specs.Condition.{Condition, condition_of}
 use Rattle.wy_term.specs.Nodes.{Plain, tree_at}
 use Rattle.wy_term.specs.declared.cond.Cond.{Cond}
-use Rattle.wy_top.specs.Judged.{AreJudged, EndsIn, IsJudged}
-use Rattle.wy_top.specs.Known.{AreKnown, EndsSo, bad_step_of}
-use Rattle.wy_top.specs.Seen.{NameTerms, known, seen_end}
-use Rattle.wy_top.specs.declared.verdict.End.{End}
-use Rattle.wy_top.specs.declared.verdict.End.TheVariants as ends
-use Rattle.wy_top.specs.declared.verdict.Verdict.{Verdict}
+use Rattle.wy_batch.specs.Judged.{AreJudged, EndsIn, IsJudged}
+use Rattle.wy_batch.specs.Known.{AreKnown, EndsSo, bad_step_of}
+use Rattle.wy_batch.specs.Seen.{NameTerms, known, seen_end}
+use Rattle.wy_batch.specs.declared.verdict.End.{End}
+use Rattle.wy_batch.specs.declared.verdict.End.TheVariants as ends
+use Rattle.wy_batch.specs.declared.verdict.Verdict.{Verdict}
 
 -- ---- terms that are as before
 

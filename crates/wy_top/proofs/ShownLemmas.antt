@@ -1,9 +1,9 @@
 -- What verdicts show, and that there is one list of them.
 use Rattle.std.proofs.Common.{◌≡◌, ◌∙◌, ◌+◌, ℕ, List, [], ◌∷◌, Bool, true, false, cond, Option, Some, None, refl, sym, ap, subst}
 use Rattle.std.specs.Prelude.{◌==◌}
-use Rattle.wy_check.specs.Verdicts.{certificate_for, verdict_from, verdict_on}
-use Rattle.wy_check.specs.declared.verdict.Verdict.{Verdict as Given}
-use Rattle.wy_check.specs.declared.verdict.Verdict.TheVariants as given
+use Rattle.wy_batch.specs.wy_check.Verdicts.{certificate_for, verdict_from, verdict_on}
+use Rattle.wy_batch.specs.wy_check.declared.verdict.Verdict.{Verdict as Given}
+use Rattle.wy_batch.specs.wy_check.declared.verdict.Verdict.TheVariants as given
 use Rattle.wy_cert.specs.Steps.{Certificates, Written}
 use Rattle.wy_lemmas.proofs.Choices.{both_parts as both}
 use Rattle.wy_prove.specs.wy_search_spec.Tree as tree
@@ -17,7 +17,7 @@ use Rattle.wy_term.specs.Condition.{Condition, HoldsAlways}
 use Rattle.wy_prove.proofs.wy_search_laws_proofs.sound_lemmas.FoundLemmas.{found_true}
 use Rattle.wy_top_answers.specs.wy_check_spec.valid.Validity.{first_bad}
 use Rattle.wy_top.specs.Acceptance.{are_closed}
-use Rattle.wy_top.specs.Known.{is_closed, End, EndsSo, IsKnown, IsSearched, Known, OneList, end_of, found, spent, stays_open, supplied}
+use Rattle.wy_batch.specs.Known.{is_closed, End, EndsSo, IsKnown, IsSearched, Known, OneList, end_of, found, spent, stays_open, supplied}
 use Rattle.wy_top.specs.Shown.{ClosedIsTrue, ReadIsTrue}
 
 -- ---- supplied certificates

@@ -10,7 +10,7 @@ use Rattle.wy_top.specs.Refusals.{invalid_lines, refusal_lines}
 use Rattle.wy_top_answers.specs.report.Lines.{accepted}
 use Rattle.wy_top_answers.specs.wy_vc_laws.shown.Certified.{AllHold}
 use Rattle.wy_top_answers.specs.supplied.Certificates.{certificates}
-use Rattle.wy_top.specs.Known.{Known, AreKnown, is_closed}
+use Rattle.wy_batch.specs.Known.{Known, AreKnown, is_closed}
 use Rattle.wy_top.specs.Programs.{Program, conditions_of, count_of, owes}
 
 abbrev pub are_closed : List Known → Bool

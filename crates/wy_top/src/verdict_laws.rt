@@ -1,5 +1,5 @@
 //! What verdicts show.
-ghost use Rattle.wy_top.specs.Known.{OneList};
+ghost use Rattle.wy_batch.specs.Known.{OneList};
 ghost use Rattle.wy_top.specs.Shown.{ClosedIsTrue, ReadIsTrue};
 
 /// For these certificates, this list of conditions and this budget there is one list of what is known.

@@ -1,5 +1,5 @@
 -- From what a parse promises to what the words ask for.
-use Rattle.std.proofs.Common.{◌≡◌, ◌∙◌, true, List, [], ◌∷◌, Option, None, inl, inr, sym, ap, subst}
+use Rattle.std.proofs.Common.{◌≡◌, ◌∙◌, true, List, [], ◌∷◌, Option, None, option_map, inl, inr, sym, ap, subst}
 use Rattle.std.specs.Prelude.{String}
 use Rattle.std.specs.declared.alloc.Global.{Global}
 use Rattle.std.proofs.lemmas.Str.{IsUtf8-string_bytes}
@@ -11,7 +11,7 @@ use Rattle.clap.specs.declared.error.Error.{Error}
 use Rattle.clap.specs.declared.error.kind.ErrorKind.{ErrorKind}
 use Rattle.clap.specs.declared.error.kind.ErrorKind.TheVariants.{OutOfMemory}
 use Rattle.clap.specs.declared.parser.matches.ArgMatches.{ArgMatches}
-use Rattle.wy_top_words.specs.CommandLine.{Asked, Order, Text, command_of, order_of}
+use Rattle.wy_top_words.specs.CommandLine.{Order, Text, command_of, order_of}
 use Rattle.wy_top_words.specs.declared.read.WordsFault.{WordsFault}
 use Rattle.wy_top_words.specs.declared.read.WordsFault.TheVariants.{Refused, NoMemory}
 use Rattle.wy_top_words.specs.Line.{app}
@@ -43,6 +43,10 @@ pub err_refused : (a : App) (words : List Text) (e : Error) → a ≡ app → Ar
     → (kind_of e ≡ OutOfMemory → ⊥) → order_of words ≡ None
 err_refused a words e is us (inl memory) other = absurd (other memory)
 err_refused a words e is us (inr among) other = line_refused words us (subst (λ (x : App). IsFaulty (fault_of x words)) is (among_faulty _ _ among))
+
+-- what an order asks for
+pub asked_alone : (o r : Option Order) → o ≡ r → option_map (λ (x : Order). x.asked) o ≡ option_map (λ (x : Order). x.asked) r
+asked_alone o r is = ap (option_map (λ (x : Order). x.asked)) is
 
 -- words that are refused aren't want of memory
 pub no_memory : (f : WordsFault) → f ≡ Refused → f ≡ NoMemory → ⊥

@@ -1,5 +1,5 @@
 //! What the words of a command line ask for.
-ghost use Rattle.std.specs.Prelude.{◌≡◌, option_map, map};
+ghost use Rattle.std.specs.Prelude.{◌≡◌, ◌≤◌, IfSome, option_map, map};
 ghost use Rattle.wy_top_words.specs.CommandLine.{asked, big_asked, check_asked, kind_named, one_of, other_kind_named, ordered, prove_asked, run_asked, source_of, two_of, four_of, workers_for};
 ghost use Rattle.wy_top_words.specs.Plain.{asked_in, given_in, order_in, text_in, texts_in};
 
@@ -116,6 +116,7 @@ pub struct Given<'a, 'b> {
 /// What the command asks for with these operands and options, if it takes them.
 pub fn order<'a, 'b>(kind: Kind, given: Given<'a, 'b>) -> Option<Ordered<'a>>
     ensures value { option_map order_in result ≡ ordered kind (given_in given.entry) }
+    ensures within { IfSome result (λ o. (1 ≤ o.workers) × (o.workers ≤ 64)) }
 {
     let words = meaning(kind, given)?;
     let workers = workers(kind, given.workers)?;
@@ -125,6 +126,7 @@ pub fn order<'a, 'b>(kind: Kind, given: Given<'a, 'b>) -> Option<Ordered<'a>>
 // The number of workers, for a command that takes it.
 fn workers(kind: Kind, text: Option<&str>) -> Option<u64>
     ensures value { result ≡ workers_for kind (option_map text_in text.entry) }
+    ensures within { IfSome result (λ n. (1 ≤ n) × (n ≤ 64)) }
 {
     match kind {
         Kind::Check | Kind::Run | Kind::Prove | Kind::Big => workers_of(text),

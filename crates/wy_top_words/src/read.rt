@@ -1,5 +1,5 @@
 //! The words, read by `clap` and tested by the table of commands.
-ghost use Rattle.std.specs.Prelude.{◌≡◌, MatchResult, None, Some, codes, option_map};
+ghost use Rattle.std.specs.Prelude.{◌≡◌, ◌≤◌, IfOk, IfSome, MatchResult, None, Some, codes, option_map};
 ghost use Rattle.clap.specs.Words.{found_of, kind_of as kind_in, rows_of, subcommand_rows_of};
 ghost use Rattle.wy_top_words.specs.CommandLine.{command_of, order_of};
 ghost use Rattle.wy_top_words.specs.Plain.{asked_in, order_in, words_in};
@@ -27,6 +27,7 @@ pub fn read_words<'a>(alloc: Global, words: &'a [String]) -> Result<Ordered<'a>,
         (λ e. e ≡ WordsFault.Refused → order_of (words_in words.entry.now) ≡ None) }
     ensures command { MatchResult result (λ o. command_of (words_in words.entry.now) ≡ Some (asked_in o.words))
         (λ e. e ≡ WordsFault.Refused → command_of (words_in words.entry.now) ≡ None) }
+    ensures workers { IfOk result (λ o. (1 ≤ o.workers) × (o.workers ≤ 64)) }
 {
     let line = match command_line(alloc) {
         Ok(line) => line,
@@ -44,6 +45,7 @@ pub fn read_words<'a>(alloc: Global, words: &'a [String]) -> Result<Ordered<'a>,
 // What a parse of the words comes to.
 fn asked<'a>(matches: &ArgMatches<'a>) -> Option<Ordered<'a>>
     ensures value { option_map order_in result ≡ asked_by (subcommand_rows_of matches.now) }
+    ensures within { IfSome result (λ o. (1 ≤ o.workers) × (o.workers ≤ 64)) }
 {
     match matches.subcommand() {
         Some((name, own)) => match kind_of(name) {
@@ -57,6 +59,7 @@ fn asked<'a>(matches: &ArgMatches<'a>) -> Option<Ordered<'a>>
 // What the command asks for with what was given behind it. Each takes an operand.
 fn asked_of<'a>(kind: Kind, own: &ArgMatches<'a>) -> Option<Ordered<'a>>
     ensures value { option_map order_in result ≡ asked_with kind (rows_of (found_of own.now)) }
+    ensures within { IfSome result (λ o. (1 ≤ o.workers) × (o.workers ≤ 64)) }
 {
     match own.get_strs("operands") {
         Some(operands) => order(

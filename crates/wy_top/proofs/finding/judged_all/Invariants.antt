@@ -3,7 +3,7 @@ use Rattle.wy_cert.specs.Steps.{certificates_of}
 use Rattle.wy_prove.specs.Carried.{IsCarried}
 use Rattle.wy_term.specs.Condition.{condition_of}
 use Rattle.wy_term.specs.Nodes.{tree_at}
-use Rattle.wy_top.specs.Judged.{AreJudged}
+use Rattle.wy_batch.specs.Judged.{AreJudged}
 use Rattle.wy_top.proofs.finding.judged_all.Given as goal
 
 -- what is known of the conditions so far; the terms are as before

@@ -3,8 +3,8 @@ use Rattle.wy_cert.specs.Steps.{certificates_of}
 use Rattle.wy_top_answers.specs.wy_vc_laws.shown.Certified.{AreFormed}
 use Rattle.wy_term.specs.Condition.{Condition, condition_of}
 use Rattle.wy_term.specs.declared.cond.Cond.{Cond}
-use Rattle.wy_top.specs.Known.{AreKnown}
-use Rattle.wy_top.specs.Seen.{known}
+use Rattle.wy_batch.specs.Known.{AreKnown}
+use Rattle.wy_batch.specs.Seen.{known}
 use Rattle.wy_top.proofs.JudgedLemmas.{all_within, same_conditions}
 use Rattle.wy_top.proofs.LengthLemmas.{same_count}
 use Rattle.wy_top.proofs.judging.judge_all.Goals as goal

@@ -4,8 +4,8 @@ use Rattle.wy_cert.specs.Steps.{certificates_of}
 use Rattle.wy_cert.specs.writing.Text.{file_text}
 use Rattle.wy_top.specs.Programs.{conditions_of}
 use Rattle.wy_top.specs.Proofs.{judges}
-use Rattle.wy_top.specs.Seen.{known}
-use Rattle.wy_top.specs.declared.verdict.Verdict.{Verdict}
+use Rattle.wy_batch.specs.Seen.{known}
+use Rattle.wy_batch.specs.declared.verdict.Verdict.{Verdict}
 use Rattle.wy_top_answers.proofs.wy_vc_laws_proofs.folded_lemmas.OwedLemmas.{conditions_folded}
 use Rattle.wy_top.proofs.FoundLemmas.{left_out}
 use Rattle.wy_top.proofs.ProofLemmas.{found_for, lacks_for, saved_file, saved_gives, unmade_gives}
