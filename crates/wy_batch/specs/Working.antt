@@ -30,5 +30,5 @@ pub record IsTask (conds : Conds) (certs : Certs) (counter : Counter) : Type 0 w
 
 -- a new seat of this weight drew these numbers until none was left, and each verdict is that on its condition
 pub record IsDone (conds : Conds) (certs : Certs) (budget : ℕ) (counter : Counter) (weight : ℕ) (seat : SeatView) (vs : List (ℕ × Verdict)) : Type 0 where
-  pub seat : seat ≡ seat_after (fresh counter weight) (numbers_of vs)
+  pub drew : seat ≡ seat_after (fresh counter weight) (numbers_of vs)
   pub verdicts : AreVerdictsAt (certificates_of certs) budget (conditions_in conds) vs

@@ -143,7 +143,15 @@ fn a_worker_of_a_callers_own_judges_what_it_draws(rt: HostRuntime) -> Result<(),
         panic!(rt; "memory")
     };
     assert!(rt; claims.draw(&mut other) == Some(0));
-    let Ok(verdicts) = work(rt.alloc(), &conds, &certs, 20, &claims, &mut seat, &OpenGate) else {
+    let Ok(verdicts) = work(
+        rt.alloc(),
+        &conds,
+        &certs,
+        20,
+        &claims,
+        &mut seat,
+        &OpenGate,
+    ) else {
         panic!(rt; "memory")
     };
     assert!(rt; seat.has_ended() && verdicts.len() == 4);
