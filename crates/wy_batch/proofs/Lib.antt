@@ -1,6 +1,5 @@
--- what workers do
-pub mod WorkLemmas
--- verdicts in order
-pub mod OrderLemmas
+-- what is known of conditions
+pub mod JudgedLemmas
+pub mod OneLemmas
 -- passed on to the crates above
 pub use Rattle.wy_check.proofs as wy_check_proofs

@@ -1,7 +1,7 @@
 -- The verdicts of `prove` as a step.
 use Rattle.std.proofs.Common.{◌≡◌, ◌∙◌, ◌<◌, ◌^◌, ℕ, List, [], length, Ok, Err, inl, inr, sym, ap, subst}
 use Rattle.wy_batch.specs.Known.{Known}
-use Rattle.wy_top.proofs.ShownLemmas.{one_list}
+use Rattle.wy_batch.proofs.OneLemmas.{one_list}
 use Rattle.std.specs.Prelude.{IfErr, IfOk, IfSome, Option, Result, Some, map}
 use Rattle.wy_top_answers.specs.Answers.{IsRefusal, no_memory}
 use Rattle.wy_top_answers.specs.Steps.{Setting, Came, Gives, came, due, uncertified}

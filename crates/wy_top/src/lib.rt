@@ -51,4 +51,5 @@ pub use certificate_laws::{found_certificates_are_valid, saved_certificates_are_
 pub use code_laws::the_code_of_a_source_is_loadable;
 pub use command_laws::commands_are_exact;
 pub use commands::run_words;
-pub use verdict_laws::{closed_conditions_hold, one_list};
+pub use verdict_laws::closed_conditions_hold;
+pub use wy_batch::one_list;

@@ -6,7 +6,7 @@ use Rattle.wy_batch.specs.Known.{is_found}
 use Rattle.wy_batch.specs.Seen.{seen_end}
 use Rattle.wy_batch.specs.declared.verdict.Verdict.{Verdict}
 use Rattle.wy_top.proofs.FoundLemmas.{are_named, found_turn, is_more, lacks_at}
-use Rattle.wy_top.proofs.JudgedLemmas.{same_condition, within_at}
+use Rattle.wy_top.proofs.StayLemmas.{same_condition, within_at}
 use Rattle.wy_top.proofs.found.found_certificates.Goals as goal
 
 pub returns-in-None-clause-lacking : goal.returns-in-None-clause-lacking

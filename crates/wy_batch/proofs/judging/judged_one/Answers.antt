@@ -1,6 +1,6 @@
 use Rattle.wy_term.specs.Condition.{condition_of}
-use Rattle.wy_top.proofs.JudgedLemmas.{bad_judged, missing_judged, supplied_judged}
-use Rattle.wy_top.proofs.finding.judged_one.Goals as goal
+use Rattle.wy_batch.proofs.JudgedLemmas.{bad_judged, missing_judged, supplied_judged}
+use Rattle.wy_batch.proofs.judging.judged_one.Goals as goal
 
 pub returns-in-Supplied-clause-value : goal.returns-in-Supplied-clause-value
 returns-in-Supplied-clause-value c = supplied_judged (condition_of c.args.terms.now c.args.cond.now) c.args.budget c.args.given c.in-Supplied.is

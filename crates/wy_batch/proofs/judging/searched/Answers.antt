@@ -1,6 +1,6 @@
 use Rattle.wy_term.specs.Condition.{condition_of}
-use Rattle.wy_top.proofs.JudgedLemmas.{found_there, open_there, spent_there}
-use Rattle.wy_top.proofs.finding.searched.Goals as goal
+use Rattle.wy_batch.proofs.JudgedLemmas.{found_there, open_there, spent_there}
+use Rattle.wy_batch.proofs.judging.searched.Goals as goal
 
 pub returns-in-Found-clause-value : goal.returns-in-Found-clause-value
 returns-in-Found-clause-value c = found_there (condition_of c.args.terms.now c.args.cond.now) c.args.budget c.in-Found.leaves c.in_ok-verdict.verdict c.in-Found.is c.in_ok-verdict.ensures.verdict
