@@ -100,11 +100,13 @@ fn accept(
 
 // The program with these certificates.
 fn accept_on<R: Threads + Sync>(
-    rt: &R, alloc: Global,
+    rt: &R,
+    alloc: Global,
     name: &str,
     cert: &str,
     bytes: &[u8],
-    budget: u64, workers: u32,
+    budget: u64,
+    workers: u32,
     owed: Owed,
     certs: &Certs,
 ) -> Result<Accepted, Answer>
@@ -123,11 +125,13 @@ fn accept_on<R: Threads + Sync>(
 
 // The program with the certificates that are named.
 fn accept_with<R: Threads + Sync, F: Files>(
-    rt: &R, alloc: Global,
+    rt: &R,
+    alloc: Global,
     name: &str,
     cert: &str,
     bytes: &[u8],
-    budget: u64, workers: u32,
+    budget: u64,
+    workers: u32,
     owed: Owed,
     files: &mut F,
 ) -> Result<Accepted, Answer>
@@ -150,11 +154,13 @@ fn accept_with<R: Threads + Sync, F: Files>(
 /// The program of the source with these bytes, where for each of its conditions the file `cert` has a valid certificate, or else
 /// its search closes all leaves, of which there are at most `budget`. Or the answer of why it isn't accepted.
 pub fn accept_source<R: Threads + Sync, F: Files>(
-    rt: &R, alloc: Global,
+    rt: &R,
+    alloc: Global,
     name: &str,
     cert: &str,
     bytes: &[u8],
-    budget: u64, workers: u32,
+    budget: u64,
+    workers: u32,
     files: &mut F,
 ) -> Result<Accepted, Answer>
     requires within { length bytes.now < 2 ^ 32 }
@@ -174,10 +180,12 @@ pub fn accept_source<R: Threads + Sync, F: Files>(
 
 /// Likewise for the source in a file.
 pub fn accept_file<R: Threads + Sync, F: Files>(
-    rt: &R, alloc: Global,
+    rt: &R,
+    alloc: Global,
     name: &str,
     cert: &str,
-    budget: u64, workers: u32,
+    budget: u64,
+    workers: u32,
     files: &mut F,
 ) -> Result<Accepted, Answer>
     requires workers { (1 ≤ workers) × (workers ≤ 64) }
@@ -189,7 +197,16 @@ pub fn accept_file<R: Threads + Sync, F: Files>(
     ensures save_count { F.save_faults files.new ≡ F.save_faults files.old }
 {
     match load(alloc, name, SOURCE_LIMIT, files) {
-        Ok(bytes) => accept_source(rt, alloc, name, cert, bytes.as_slice(), budget, workers, files),
+        Ok(bytes) => accept_source(
+            rt,
+            alloc,
+            name,
+            cert,
+            bytes.as_slice(),
+            budget,
+            workers,
+            files,
+        ),
         Err(answer) => Err(answer),
     }
 }

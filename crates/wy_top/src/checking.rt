@@ -30,7 +30,15 @@ fn answer_of(alloc: Global, accepted: Accepted) -> Answer
 
 /// The answer of `check`: how many conditions the program of the source has, where each has a valid certificate, or why it
 /// isn't accepted.
-pub fn check<R: Threads + Sync, F: Files>(rt: &R, alloc: Global, name: &str, cert: &str, budget: u64, workers: u32, files: &mut F) -> Answer
+pub fn check<R: Threads + Sync, F: Files>(
+    rt: &R,
+    alloc: Global,
+    name: &str,
+    cert: &str,
+    budget: u64,
+    workers: u32,
+    files: &mut F,
+) -> Answer
     requires workers { (1 ≤ workers) × (workers ≤ 64) }
     ensures answers { During (F.told files.old) (F.load_faults files.old) (F.load_faults files.new) (F.misses files.old) (F.misses files.new) (λ s. Answers s (spec.check_steps s name.now cert.now budget) result) }
     ensures kept { (other : List ℕ) → F.told files.new other ≡ F.told files.old other }

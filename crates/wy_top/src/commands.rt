@@ -49,7 +49,8 @@ use wy_top_words::{Words, WordsFault, read_words};
 ///
 /// It runs accepted programs alone, and asks that these never lack a step.
 pub fn run_words<R: Threads + Sync, F: Files, O: Sink, E: Sink>(
-    rt: &R, alloc: Global,
+    rt: &R,
+    alloc: Global,
     words: &[String],
     files: &mut F,
     out: &mut O,
@@ -90,7 +91,8 @@ pub fn run_words<R: Threads + Sync, F: Files, O: Sink, E: Sink>(
 
 // Does what is asked for.
 fn perform<R: Threads + Sync, F: Files, O: Sink, E: Sink>(
-    rt: &R, alloc: Global,
+    rt: &R,
+    alloc: Global,
     asked: Words<'_>,
     workers: u32,
     files: &mut F,
@@ -123,7 +125,17 @@ fn perform<R: Threads + Sync, F: Files, O: Sink, E: Sink>(
             budget,
             steps,
             stats,
-        } => match launch_file(rt, alloc, source, certificates, name, arguments, budget, workers, files) {
+        } => match launch_file(
+            rt,
+            alloc,
+            source,
+            certificates,
+            name,
+            arguments,
+            budget,
+            workers,
+            files,
+        ) {
             Ok(launch) => run(alloc, &launch, steps, stats, out, err),
             Err(answer) => show(&answer, out, err),
         },

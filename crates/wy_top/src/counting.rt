@@ -4,7 +4,6 @@ ghost use Rattle.wy_top.specs.Acceptance as acceptance;
 ghost use Rattle.wy_batch.specs.Known as plain;
 ghost use Rattle.wy_batch.specs.Seen as seen;
 
-
 use wy_batch::Verdict;
 
 /// How many conditions stay open.

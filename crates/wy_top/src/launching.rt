@@ -111,12 +111,14 @@ pub fn launched(
 
 /// What the run of the source in a file starts with, or the answer of why it doesn't start.
 pub fn launch_file<R: Threads + Sync, F: Files>(
-    rt: &R, alloc: Global,
+    rt: &R,
+    alloc: Global,
     source: &str,
     cert: &str,
     name: &str,
     arguments: &str,
-    budget: u64, workers: u32,
+    budget: u64,
+    workers: u32,
     files: &mut F,
 ) -> Result<Launch, Answer>
     requires goes { AcceptedRunsGo }

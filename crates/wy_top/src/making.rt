@@ -98,10 +98,12 @@ fn run_large(alloc: Global, functions: u32, seed: u32, steps: u64, accepted: Acc
 
 // The answer where this is the source.
 fn accept_large<R: Threads + Sync, F: Files>(
-    rt: &R, alloc: Global,
+    rt: &R,
+    alloc: Global,
     functions: u32,
     seed: u32,
-    budget: u64, workers: u32,
+    budget: u64,
+    workers: u32,
     steps: u64,
     source: &[u8],
     files: &mut F,
@@ -123,10 +125,12 @@ fn accept_large<R: Threads + Sync, F: Files>(
 
 // The answer with these numbers.
 fn large_of<R: Threads + Sync, F: Files>(
-    rt: &R, alloc: Global,
+    rt: &R,
+    alloc: Global,
     functions: u32,
     seed: u32,
-    budget: u64, workers: u32,
+    budget: u64,
+    workers: u32,
     steps: u64,
     files: &mut F,
 ) -> Answer
@@ -167,10 +171,12 @@ fn narrowed(number: u64) -> Option<u32>
 /// The answer of `big`: a line with the number of functions, that of conditions, and what the last function gives; or why
 /// there is none.
 pub fn large<R: Threads + Sync, F: Files>(
-    rt: &R, alloc: Global,
+    rt: &R,
+    alloc: Global,
     functions: u64,
     seed: u64,
-    budget: u64, workers: u32,
+    budget: u64,
+    workers: u32,
     steps: u64,
     files: &mut F,
 ) -> Answer

@@ -124,10 +124,12 @@ fn made(
 
 // The verdicts on the conditions that are owed, without certificates, and what is made of them.
 fn prove_on<R: Threads + Sync>(
-    rt: &R, alloc: Global,
+    rt: &R,
+    alloc: Global,
     name: &str,
     bytes: &[u8],
-    budget: u64, workers: u32,
+    budget: u64,
+    workers: u32,
     owed: Owed,
 ) -> Result<Proof, Answer>
     requires kept { IsKept owed }
@@ -145,7 +147,14 @@ fn prove_on<R: Threads + Sync>(
 }
 
 // The same of the source with these bytes.
-fn prove_source<R: Threads + Sync>(rt: &R, alloc: Global, name: &str, bytes: &[u8], budget: u64, workers: u32) -> Result<Proof, Answer>
+fn prove_source<R: Threads + Sync>(
+    rt: &R,
+    alloc: Global,
+    name: &str,
+    bytes: &[u8],
+    budget: u64,
+    workers: u32,
+) -> Result<Proof, Answer>
     requires within { length bytes.now < 2 ^ 32 }
     requires workers { (1 ≤ workers) × (workers ≤ 64) }
     ensures gives { (s : Setting) → Gives s (spec.proves_source name.now budget bytes.now) (came answer_in result) }
@@ -160,9 +169,11 @@ fn prove_source<R: Threads + Sync>(rt: &R, alloc: Global, name: &str, bytes: &[u
 /// The certificates that searches of so many leaves find for the program of the source in this file, as a file, and what is
 /// answered behind the save; or the answer with which the command ends before it.
 pub fn prove_file<R: Threads + Sync, F: Files>(
-    rt: &R, alloc: Global,
+    rt: &R,
+    alloc: Global,
     name: &str,
-    budget: u64, workers: u32,
+    budget: u64,
+    workers: u32,
     files: &mut F,
 ) -> Result<Proof, Answer>
     requires workers { (1 ≤ workers) × (workers ≤ 64) }
