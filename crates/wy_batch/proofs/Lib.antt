@@ -1,3 +1,5 @@
+-- what workers do
+pub mod WorkLemmas
 -- what is known of conditions
 pub mod JudgedLemmas
 pub mod OneLemmas
