@@ -5,7 +5,7 @@ use Rattle.std.specs.List.{fold}
 use Rattle.std.specs.Option.{option_map_or}
 use Rattle.clap.specs.Lexer.{long_of}
 use Rattle.clap.specs.Walk.{Names, Walk, after_step, finished, idle, long_or_other, nothing_held, rows_after, settled, short_or_plain, subcommand_met, subcommand_or_other, trailing, walk_from, walked}
-use Rattle.clap.specs.Simple.{App, entered, is_simple, names_of, suborder_of}
+use Rattle.clap.specs.Simple.{App, entered, is_simple, names_of, subcommand_of}
 use Rattle.clap.specs.Kinds.{Kinds, or_else}
 use Rattle.clap.specs.Faults.{bundle_fault, bundle_step_fault, check_fault, defaults_fault, entered_fault, fault_of, flag_word_fault, flags_fault, is_simple_and_free, level_fault, other_fault, settle_fault, step_fault, turn_fault, walk_fault}
 use Rattle.clap.proofs.WalkLemmas.{walk_stopped}
@@ -46,7 +46,7 @@ stopped_free name seen (x ∷ xs) = stopped_free name (seen ++ x ∷ []) xs
 -- the first word is a command
 pub record Enters (name : Text) (word : Text) (rest : List Text) : Type 0 where
   pub fault : fault_of app (word ∷ rest) ≡ level_fault (leaf_shape name) [] nothing_held rest false []
-  pub rows : suborder_of app (word ∷ rest) ≡ Some (name, rows_after rules [] rest)
+  pub rows : subcommand_of app (word ∷ rest) ≡ Some (name, rows_after rules [] rest)
 
 abbrev pub name_of : Kind → Text
 name_of kind.Check = codes "check"
@@ -75,7 +75,7 @@ walk_by word met = after_step [] word begun (subcommand_or_other [] met idle 1 w
 line_is : (words : List Text) → fault_of app words ≡ line_fault (walk_fault top_shape names begun words) (ended_line words)
 line_is words = refl
 
-rows_are : (words : List Text) → suborder_of app words ≡ entered line (ended_line words).stopped
+rows_are : (words : List Text) → subcommand_of app words ≡ entered line (ended_line words).stopped
 rows_are words = refl
 
 first_turn : (word : Text) → turn_fault top_shape names begun word ≡ turn_by word (subcommand_met names idle word)
@@ -194,11 +194,11 @@ first_word word u stray l =
 first_word word u operand l = refused (subst IsFaulty (sym (turn_none word ∙ ap₂ (word_by word) l.ends l.long ∙ ap (short_by word) l.short)) tt)
 
 no_command : (word : Text) (rest : List Text) → IsUtf8 word → subcommand_met names idle word ≡ None → fault_of app (word ∷ rest) ≡ []
-    → asked_by (suborder_of app (word ∷ rest)) ≡ None
+    → asked_by (subcommand_of app (word ∷ rest)) ≡ None
 unfolding walk_fault walked
 no_command word rest u met free = go (first_word word u (mark_of word) (looks word)) rest free
   where
-    go : First word → (xs : List Text) → fault_of app (word ∷ xs) ≡ [] → asked_by (suborder_of app (word ∷ xs)) ≡ None
+    go : First word → (xs : List Text) → fault_of app (word ∷ xs) ≡ [] → asked_by (subcommand_of app (word ∷ xs)) ≡ None
     go (refused f) xs none = absurd (no_fault _ (first_faulty _ _ (first_faulty _ _ (subst IsFaulty (sym (first_turn word ∙ ap (turn_by word) met)) f))) none)
     go (trails t) [] none = ap (λ (w : Walk). asked_by (entered line w.stopped)) (first_walk word ∙ ap (walk_by word) met ∙ t)
     go (trails t) (y ∷ ys) none =
@@ -209,7 +209,7 @@ no_command word rest u met free = go (first_word word u (mark_of word) (looks wo
 -- ---- the whole line
 
 -- where no fault comes, the matches ask for what the words do
-pub line_taken : (words : List Text) → AreTexts words → fault_of app words ≡ [] → asked_by (suborder_of app words) ≡ order_of words
+pub line_taken : (words : List Text) → AreTexts words → fault_of app words ≡ [] → asked_by (subcommand_of app words) ≡ order_of words
 line_taken [] us free = refl
 line_taken (word ∷ rest) us free = go (kind_named word) (met_is word)
   where
@@ -219,7 +219,7 @@ line_taken (word ∷ rest) us free = go (kind_named word) (met_is word)
     given k (Some g) e none = e.1 k
 
     go : (o : Option Kind) → subcommand_met names idle word ≡ option_map name_of o
-        → asked_by (suborder_of app (word ∷ rest)) ≡ option_and_then (λ k. option_and_then (ordered k) (given_by rest)) o
+        → asked_by (subcommand_of app (word ∷ rest)) ≡ option_and_then (λ k. option_and_then (ordered k) (given_by rest)) o
     go None met = no_command word rest us.0 met free
     go (Some k) met =
         let e = enters k word rest met in

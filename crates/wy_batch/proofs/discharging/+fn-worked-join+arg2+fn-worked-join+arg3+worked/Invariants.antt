@@ -1,5 +1,5 @@
 use Rattle.std.proofs.Common.{◌+◌, ◌*◌}
-use Rattle.wy_batch.proofs.discharging.+worked+fn-worked-join+arg2+fn-worked-join+arg3.Given as goal
+use Rattle.wy_batch.proofs.discharging.+fn-worked-join+arg2+fn-worked-join+arg3+worked.Given as goal
 
 abbrev pub decreases-worked : goal.decreases-worked
 decreases-worked g l = 2 * l.workers
