@@ -11,7 +11,7 @@ use Rattle.clap.specs.declared.error.Error.{Error}
 use Rattle.clap.specs.declared.error.kind.ErrorKind.{ErrorKind}
 use Rattle.clap.specs.declared.error.kind.ErrorKind.TheVariants.{OutOfMemory}
 use Rattle.clap.specs.declared.parser.matches.ArgMatches.{ArgMatches}
-use Rattle.wy_top_words.specs.CommandLine.{Order, Text, command_of, order_of}
+use Rattle.wy_top_words.specs.CommandLine.{Order, Text, order_of}
 use Rattle.wy_top_words.specs.declared.read.WordsFault.{WordsFault}
 use Rattle.wy_top_words.specs.declared.read.WordsFault.TheVariants.{Refused, NoMemory}
 use Rattle.wy_top_words.specs.Line.{app}

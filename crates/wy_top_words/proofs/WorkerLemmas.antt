@@ -1,8 +1,7 @@
 -- What is asked for doesn't depend on the number of workers.
 use Rattle.std.proofs.Common.{◌≡◌, ◌∙◌, ℕ, Option, Some, None, option_map, refl, sym, ap}
 use Rattle.std.specs.Prelude.{option_and_then}
-use Rattle.wy_top_words.specs.CommandLine.{Asked, Given, NeverByWorkers, Order, asked, ordered, with_workers, workers_for, workers_within}
-use Rattle.wy_top_words.specs.declared.command.Kind.{Kind}
+use Rattle.wy_top_words.specs.CommandLine.{Asked, NeverByWorkers, Order, asked, with_workers}
 use Rattle.wy_top_words.specs.declared.command.Kind.TheVariants as kind
 
 abbrev only : Option Order → Option Asked

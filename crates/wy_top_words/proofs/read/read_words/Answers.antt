@@ -1,6 +1,4 @@
-use Rattle.std.proofs.Common.{ap, option_map}
 use Rattle.clap.specs.Words.{app_of}
-use Rattle.wy_top_words.specs.CommandLine.{Asked, Order}
 use Rattle.wy_top_words.specs.Plain.{words_in}
 use Rattle.wy_top_words.proofs.ReadLemmas.{all_text, asked_alone, err_refused, no_memory, ok_reads, ready}
 use Rattle.wy_top_words.proofs.read.read_words.Goals as goal
