@@ -1,0 +1,21 @@
+//! A probe for faults: arguments on which a program really faults.
+//!
+//! For each parameter `candidates` has the values that are tried, a table by the parameter's type, which `lists` puts
+//! together, and of which `tables` keeps those of declared types. `tuples` puts one value of each parameter together,
+//! one tuple after another, the first values first. `trials` tells of one tuple what it comes to: whether it meets the
+//! precondition, and whether the value semantics faults on it. `probing` has the public call, which goes through the
+//! tuples up to the first that faults.
+#![tactic(auto)]
+
+mod arrays;
+mod candidates;
+mod lists;
+mod probing;
+mod records;
+mod tables;
+#[cfg(test)]
+mod tests;
+mod trials;
+mod tuples;
+
+pub use probing::{ProbeEnd, probe};
