@@ -1,0 +1,2 @@
+-- tuples one after another
+mod TupleLemmas

@@ -5,8 +5,10 @@ pub mod Tuples
 -- what is tried, and what a probe finds
 pub mod Trials
 -- what functions inside owe each other
-pub mod Comes
 pub mod Tables
+pub mod Turns
+pub mod Comes
+pub mod Tallies
 -- passed on to the crates above
 pub use Rattle.wy_eval_exprs.specs as wy_eval_exprs
 pub use Rattle.wy_flow_spec.specs as wy_flow_spec

@@ -1,9 +1,9 @@
 -- What is tried, and what does a probe find?
-use Rattle.std.specs.Prelude.{◌≡◌, ◌≤◌, ◌<◌, ◌⊎◌, ◌++◌, ℕ, suc, List, [], ◌∷◌, map, length, get_or, Option, Some, None, Bool}
+use Rattle.std.specs.Prelude.{◌≡◌, ◌≤◌, ◌<◌, ◌⊎◌, ◌++◌, ℕ, suc, List, [], ◌∷◌, map, length, get_or, slice_get, Some}
 use Rattle.wy_term.specs.declared.cond.CondKind.{CondKind}
 use Rattle.wy_value.specs.Datum.{Datum, Null}
 use Rattle.wy_value.specs.Seen.{seen}
-use Rattle.wy_core.specs.CoreTree.{Core, Param, routines_of}
+use Rattle.wy_core.specs.CoreTree.{Core, Param, Routine, routines_of}
 use Rattle.wy_types.specs.Names.{Declared, names_in}
 use Rattle.wy_sem.specs.Evaluation as sem
 use Rattle.wy_sem.specs.Evaluation.{Callee, callee, contract_cost, evaluate}
@@ -84,7 +84,12 @@ pub data Counted (P : List Datum → Type 0) : List (List Datum) → ℕ → Typ
   one_more : {vs : List Datum} {rest : List (List Datum)} {n : ℕ} → P vs → Counted P rest n → Counted P (vs ∷ rest) (suc n)
   not_one : {vs : List Datum} {rest : List (List Datum)} {n : ℕ} → (P vs → ⊥) → Counted P rest n → Counted P (vs ∷ rest) n
 
--- the first tuple that faults has this number, from 1
+-- what a probe finds: the first tuple that faults, with its number, from 1, and its fault; or how many tuples were tried, are met, and are undecided
+pub data Finding : Type 0 where
+  Faulted : (number : ℕ) (vs : List Datum) (kind : CondKind) (at : ℕ) → Finding
+  Faultless : (tried met undecided : ℕ) → Finding
+
+-- the first tuple that faults has this number
 pub record FoundIn (p : Probe) (all : List (List Datum)) (number : ℕ) (vs : List Datum) (kind : CondKind) (at : ℕ) : Type 0 where
   pub before : List (List Datum)
   pub behind : List (List Datum)
@@ -93,18 +98,31 @@ pub record FoundIn (p : Probe) (all : List (List Datum)) (number : ℕ) (vs : Li
   pub none_before : NoneFaults p before
   pub faults : DoesFault p vs kind at
 
--- none of the tuples faults, and so many were tried, were met, and were undecided
+-- none of the tuples faults, and so many were tried, are met, and are undecided
 pub record NoneIn (p : Probe) (all : List (List Datum)) (tried met undecided : ℕ) : Type 0 where
   pub none : NoneFaults p all
   pub tried_are : tried ≡ length all
   pub met_are : Counted (IsMet p) all met
   pub undecided_are : Counted (IsUndecided p) all undecided
 
--- what a probe of these tuples ends with
-abbrev pub Ends : Probe → List (List Datum) → ProbeEnd → Type 0
-Ends p all (end.Found number args kind at) = FoundIn p all number (map seen args.items) kind at
-Ends p all (end.None tried met undecided) = NoneIn p all tried met undecided
+-- what a probe of these tuples finds
+abbrev pub Finds : Probe → List (List Datum) → Finding → Type 0
+Finds p all (Faulted number vs kind at) = FoundIn p all number vs kind at
+Finds p all (Faultless tried met undecided) = NoneIn p all tried met undecided
+
+-- there is one finding
+abbrev pub FindsOnce : Type 0
+FindsOnce = (p : Probe) (all : List (List Datum)) (f g : Finding) → Finds p all f → Finds p all g → f ≡ g
+
+-- what the end of the code says
+abbrev pub seen_end : ProbeEnd → Finding
+seen_end (end.Found number args kind at) = Faulted number (map seen args.items) kind at
+seen_end (end.None tried met undecided) = Faultless tried met undecided
+
+-- what is found among the first so many tuples of the function or method
+abbrev pub FindsFirst : Probe → ℕ → Finding → Type 0
+FindsFirst p n f = Finds p (tuples_of p n) f
 
 -- the number is that of a declared function or method
 abbrev pub IsRoutine : Core ℕ → ℕ → Type 0
-IsRoutine core entry = (r : _) × (callee (routines_of core) entry ≡ sem.Declared r)
+IsRoutine core entry = (r : Routine ℕ) × (slice_get (routines_of core) entry ≡ Some r)

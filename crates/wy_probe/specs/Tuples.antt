@@ -1,5 +1,5 @@
 -- In which order are values put together into arguments? A tuple is written by the positions of its values, from 0, in lists of these lengths.
-use Rattle.std.specs.Prelude.{ℕ, zero, suc, ◌+◌, ◌-◌, List, [], ◌∷◌, ◌++◌, map, take, Bool, true, false, cond, ◌||◌, ◌&&◌, Option, Some, None, nat_lt, nat_eq}
+use Rattle.std.specs.Prelude.{◌≡◌, ◌<◌, ℕ, zero, suc, ◌+◌, ◌-◌, List, [], ◌∷◌, ◌++◌, map, take, Bool, true, false, cond, ◌||◌, ◌&&◌, not, Option, Some, None, nat_lt}
 
 -- ---- the order: by the sum of the positions, and then by the first position that differs
 
@@ -47,34 +47,58 @@ abbrev pub led_by : ℕ → Option (List ℕ) → Option (List ℕ) → Option (
 led_by p (Some ps) other = Some (p ∷ ps)
 led_by p None other = other
 
+-- behind the last tuple with this first position: the next position, where there is one and the others have something to give
+abbrev pub turned : ℕ → List ℕ → ℕ → ℕ → Option (List ℕ)
+turned n ns p t = cond (nat_lt (suc p) n && nat_lt 0 t) (Some (suc p ∷ least ns (t - 1))) None
+
 -- the next tuple with the same sum
 abbrev pub next_alike : List ℕ → List ℕ → Option (List ℕ)
 next_alike [] ps = None
 next_alike (n ∷ ns) [] = None
-next_alike (n ∷ ns) (p ∷ ps) = led_by p (next_alike ns ps) (cond (nat_lt (suc p) n && nat_lt 0 (sum_of ps)) (Some (suc p ∷ least ns (sum_of ps - 1))) None)
+next_alike (n ∷ ns) (p ∷ ps) = led_by p (next_alike ns ps) (turned n ns p (sum_of ps))
 
 abbrev pub or_else : Option (List ℕ) → Option (List ℕ) → Option (List ℕ)
 or_else (Some ps) other = Some ps
 or_else None other = other
 
+-- the first tuple of the next sum, where there is one
+abbrev pub risen : List ℕ → ℕ → Option (List ℕ)
+risen ns s = cond (nat_lt s (greatest_sum ns)) (Some (least ns (suc s))) None
+
 -- the next tuple
 abbrev pub next_tuple : List ℕ → List ℕ → Option (List ℕ)
-next_tuple ns ps = or_else (next_alike ns ps) (cond (nat_lt (sum_of ps) (greatest_sum ns)) (Some (least ns (suc (sum_of ps)))) None)
+next_tuple ns ps = or_else (next_alike ns ps) (risen ns (sum_of ps))
 
--- the tuple, and so many of those after it
-abbrev mutual
-  pub tuples_from : List ℕ → ℕ → List ℕ → List (List ℕ)
-  tuples_from ns zero ps = ps ∷ []
-  tuples_from ns (suc count) ps = ps ∷ tuples_behind ns count (next_tuple ns ps)
+-- a tuple, if there is one, and those after it, so many at most
+abbrev pub tuples_from : List ℕ → ℕ → Option (List ℕ) → List (List ℕ)
+tuples_from ns zero o = []
+tuples_from ns (suc count) None = []
+tuples_from ns (suc count) (Some ps) = ps ∷ tuples_from ns count (next_tuple ns ps)
 
-  pub tuples_behind : List ℕ → ℕ → Option (List ℕ) → List (List ℕ)
-  tuples_behind ns count None = []
-  tuples_behind ns count (Some ps) = tuples_from ns count ps
+abbrev pub is_zero : ℕ → Bool
+is_zero zero = true
+is_zero (suc n) = false
 
+-- one of the lists has no values
 abbrev pub has_empty : List ℕ → Bool
 has_empty [] = false
-has_empty (n ∷ ns) = nat_eq n 0 || has_empty ns
+has_empty (n ∷ ns) = is_zero n || has_empty ns
 
 abbrev pub zeros : List ℕ → List ℕ
 zeros [] = []
 zeros (n ∷ ns) = 0 ∷ zeros ns
+
+-- the first tuple, where no list is empty
+abbrev pub first_one : List ℕ → Option (List ℕ)
+first_one ns = cond (has_empty ns) None (Some (zeros ns))
+
+-- one tuple after another: so the tuples come in order
+abbrev pub ComeInOrder : Type 0
+ComeInOrder = (ns : List ℕ) (n : ℕ) → tuples_from ns n (first_one ns) ≡ first_tuples ns n
+
+-- the positions are some of these lists
+abbrev pub Fit : List ℕ → List ℕ → Type 0
+Fit [] [] = Unit {0}
+Fit [] (p ∷ ps) = ⊥
+Fit (n ∷ ns) [] = ⊥
+Fit (n ∷ ns) (p ∷ ps) = (p < n) × Fit ns ps

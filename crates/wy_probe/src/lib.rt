@@ -9,6 +9,7 @@
 
 mod arrays;
 mod candidates;
+mod laws;
 mod lists;
 mod probing;
 mod records;
@@ -18,4 +19,5 @@ mod tests;
 mod trials;
 mod tuples;
 
+pub use laws::tuples_come_in_order;
 pub use probing::{ProbeEnd, probe};

@@ -1,10 +1,17 @@
 //! The probe: from a typed program to arguments on which it faults.
-ghost use Rattle.std.specs.Prelude.{◌≡◌, ◌≤◌, IfOk, map};
+ghost use Rattle.std.specs.Prelude.{◌≡◌, ◌≤◌, ◌<◌, suc, IfOk, IfSome, length, map, option_map};
+ghost use Rattle.wy_core.specs.CoreSeen.{seen_core, seen_param};
 ghost use Rattle.wy_flow_spec.specs.typing.TypedPrograms.{core_of};
-ghost use Rattle.wy_probe.specs.Trials.{Ends, IsRoutine, tuples_of};
+ghost use Rattle.wy_types.specs.Names.{types_of};
+ghost use Rattle.wy_value.specs.Seen.{seen};
 ghost use Rattle.wy_probe.specs.Comes.{probe_of};
+ghost use Rattle.wy_probe.specs.Tables.{table_of};
+ghost use Rattle.wy_probe.specs.Tallies.{with_one};
+ghost use Rattle.wy_probe.specs.Trials as spec;
+ghost use Rattle.wy_probe.specs.Trials.{Faultless, Finds, FindsFirst, IsRoutine, seen_end};
+ghost use Rattle.wy_probe.specs.Tuples.{Fit, first_one};
 
-use crate::candidates::{Table, values_of};
+use crate::candidates::values_of;
 use crate::tables::tables_of_types;
 use crate::trials::{Trial, tried};
 use crate::tuples::{first_tuple, has_empty, next_tuple_of};
@@ -16,6 +23,9 @@ use wy_items::{Items, NoMemory};
 use wy_term::CondKind;
 use wy_types::Names;
 use wy_value::Value;
+
+/// The most parameters of a function or method that is probed. A source has far fewer.
+const MOST_PARAMETERS: usize = 2_147_483_648;
 
 /// What a probe finds.
 #[derive(Drop)]
@@ -57,7 +67,7 @@ pub fn probe(
     requires routine { IsRoutine (core_of typed.now) entry }
     requires tuples { n ≤ 1000 }
     requires ticks { ticks ≤ 2000 }
-    ensures ends { IfOk result (λ end. Ends (probe_of (core_of typed.now) entry ticks) (tuples_of (probe_of (core_of typed.now) entry ticks) n) end) }
+    ensures finds { IfOk result (λ end. FindsFirst (probe_of (core_of typed.now) entry ticks) n (seen_end end)) }
 {
     let core = typed.core();
     let Some(routine) = routine_at(core.decls.as_slice(), entry) else {
@@ -73,11 +83,12 @@ fn lists_of(
     names: &Names,
     params: &[Param],
 ) -> Result<Items<Items<Value>>, NoMemory>
+    ensures value { IfOk result (λ lists. table_of lists ≡ spec.lists_of (types_of names.now) (map seen_param params.now)) }
 {
     let tables = tables_of_types(alloc, names)?;
     let mut lists = Items::new(alloc);
     let [table, lower @ ..] = tables.as_slice() else {
-        return Ok(lists);
+        return Err(NoMemory);
     };
     for param in params {
         let values = values_of(alloc, names, table.as_slice(), lower, &param.ty)?;
@@ -86,25 +97,86 @@ fn lists_of(
     Ok(lists)
 }
 
-// The length of each list.
+// The length of each list. None has more than 2^32 - 1 values.
 fn lengths_of(alloc: Global, lists: &[Items<Value>]) -> Result<Vec<u32>, NoMemory>
+    ensures value { IfOk result (λ lengths. lengths.items ≡ map length (table_of lists.now)) }
 {
     let mut lengths = Vec::new(alloc);
     for list in lists {
-        lengths.push(list.len() as u32)?;
+        match u32::try_from(list.len()) {
+            Ok(length) => lengths.push(length)?,
+            Err(_) => return Err(NoMemory),
+        }
     }
     Ok(lengths)
 }
 
-// The values at the positions, copied.
+// The values at the positions, copied; each position lies in its list.
 fn picked(alloc: Global, lists: &[Items<Value>], tuple: &[u32]) -> Result<Vec<Value>, NoMemory>
+    requires fit { Fit (map length (table_of lists.now)) tuple.now }
+    ensures value { IfOk result (λ args. map seen args.items ≡ spec.picked (table_of lists.now) tuple.now) }
 {
     let mut args = Vec::new(alloc);
     for place in 0..lists.len() {
-        let position = tuple[place] as usize;
-        args.push(lists[place].as_slice()[position].copy(alloc)?)?;
+        if place >= tuple.len() {
+            return Err(NoMemory);
+        }
+        match lists[place].get(tuple[place] as usize) {
+            Some(value) => args.push(value.copy(alloc)?)?,
+            None => return Err(NoMemory),
+        }
     }
     Ok(args)
+}
+
+/// How many tuples were tried, are met, and are undecided.
+#[derive(Clone, Copy, Debug)]
+pub struct Tally {
+    pub tried: u32,
+    pub met: u32,
+    pub undecided: u32,
+}
+
+// What is found where none of the tuples faults.
+fn none_of(tally: Tally) -> ProbeEnd
+    ensures value { seen_end result ≡ Faultless tally.tried tally.met tally.undecided }
+{
+    ProbeEnd::None {
+        tried: tally.tried,
+        met: tally.met,
+        undecided: tally.undecided,
+    }
+}
+
+// The tally with one tuple more.
+fn counted(tally: Tally, met: bool, undecided: bool) -> Tally
+    requires tried { tally.tried < 1000 }
+    requires met { tally.met ≤ tally.tried }
+    requires undecided { tally.undecided ≤ tally.tried }
+    ensures tried { result.tried ≡ suc tally.tried }
+    ensures met { result.met ≡ with_one met tally.met }
+    ensures undecided { result.undecided ≡ with_one undecided tally.undecided }
+{
+    let mut tally = tally;
+    tally.tried += 1;
+    if met {
+        tally.met += 1;
+    }
+    if undecided {
+        tally.undecided += 1;
+    }
+    tally
+}
+
+// The first tuple, where none of the lists is empty.
+fn first_of(alloc: Global, lengths: &[u32]) -> Result<Option<Vec<u32>>, NoMemory>
+    ensures value { IfOk result (λ first. option_map (λ v. v.items) first ≡ first_one lengths.now) }
+    ensures fit { IfOk result (λ first. IfSome first (λ v. Fit lengths.now v.items)) }
+{
+    if has_empty(lengths) {
+        return Ok(None);
+    }
+    Ok(Some(first_tuple(alloc, lengths)?))
 }
 
 // Tries the tuples of the lists one after another.
@@ -116,17 +188,24 @@ fn probe_lists(
     n: u32,
     ticks: u32,
 ) -> Result<ProbeEnd, NoMemory>
+    requires tuples { n ≤ 1000 }
+    requires ticks { ticks ≤ 2000 }
+    ensures finds { IfOk result (λ end. Finds (probe_of (seen_core core.now) entry ticks) (spec.first_of (table_of lists.now) n) (seen_end end)) }
 {
+    if lists.len() > MOST_PARAMETERS {
+        return Err(NoMemory);
+    }
     let lengths = lengths_of(alloc, lists)?;
-    let mut tried_so_far = 0;
-    let mut met_so_far = 0;
-    let mut undecided_so_far = 0;
-    let mut tuple = first_tuple(alloc, lengths.as_slice())?;
-    let mut goes_on = !has_empty(lengths.as_slice());
+    let mut next = first_of(alloc, lengths.as_slice())?;
+    let mut tally = Tally {
+        tried: 0,
+        met: 0,
+        undecided: 0,
+    };
     for number in 0..n {
-        if !goes_on {
-            break;
-        }
+        let Some(tuple) = next else {
+            return Ok(none_of(tally));
+        };
         let args = picked(alloc, lists, tuple.as_slice())?;
         match tried(alloc, core, entry, args.as_slice(), ticks)? {
             Trial::Faults(kind, at) => {
@@ -138,16 +217,10 @@ fn probe_lists(
                 });
             }
             Trial::Passes { met, undecided } => {
-                tried_so_far += 1;
-                met_so_far += met as u32;
-                undecided_so_far += undecided as u32;
+                tally = counted(tally, met, undecided);
             }
         }
-        goes_on = next_tuple_of(lengths.as_slice(), tuple.as_mut_slice());
+        next = next_tuple_of(alloc, lengths.as_slice(), tuple.as_slice())?;
     }
-    Ok(ProbeEnd::None {
-        tried: tried_so_far,
-        met: met_so_far,
-        undecided: undecided_so_far,
-    })
+    Ok(none_of(tally))
 }

@@ -23,6 +23,7 @@ pub mod Kept
 pub mod Texts
 pub mod Launching
 pub mod Large
+pub mod Probing
 -- what the calls that run programs ask for
 pub mod Going
 -- what sinks and files show of it
@@ -42,5 +43,6 @@ pub use Rattle.wy_gen_sources.specs.wy_gen_laws as wy_gen_laws
 pub use Rattle.wy_gen_sources.specs as wy_gen_sources
 pub use Rattle.wy_mach_run.specs.wy_mach as wy_mach
 pub use Rattle.wy_mach_run.specs as wy_mach_run
+pub use Rattle.wy_probe.specs as wy_probe
 pub use Rattle.wy_top_answers.specs as wy_top_answers
 pub use Rattle.wy_top_source.specs as wy_top_source
