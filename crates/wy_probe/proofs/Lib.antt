@@ -1,2 +1,4 @@
 -- tuples one after another
 mod TupleLemmas
+-- positions that lie in their lists
+mod FitLemmas

@@ -180,8 +180,11 @@ first_run ns o all (suc n) (goes {ps} {rest} is runs) = ap (λ l. ps ∷ l) (fir
 pub in_order : ComeInOrder
 in_order ns n = by_truth (has_empty ns) (λ b. tuples_from ns n (cond b None (Some (zeros ns))) ≡ first_tuples ns n)
     (λ t. none n ∙ sym (ap (take n) (none_at_all ns t (suc (greatest_sum ns)) 0) ∙ nothing n))
-    (λ f. ap (λ ps. tuples_from ns n (Some ps)) (sym (least_zeros ns)) ∙ first_run ns (Some (least ns 0)) (all_tuples ns) n (sums_run ns f (greatest_sum ns) 0 refl))
+    (λ f. ap (λ ps. tuples_from ns n (Some ps)) (sym (least_zeros ns)) ∙ first_run ns (Some (least ns 0)) (all_tuples ns) n (sums_run ns f (greatest_sum ns) 0 all))
   where
+    all : 0 + greatest_sum ns ≡ greatest_sum ns
+    all = omega arith
+
     none : (k : ℕ) → tuples_from ns k None ≡ []
     none zero = refl
     none (suc k) = refl

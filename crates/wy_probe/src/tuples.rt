@@ -1,5 +1,5 @@
 //! Tuples of positions in lists, one after another.
-ghost use Rattle.std.specs.Prelude.{◌≡◌, ◌++◌, ◌≤◌, ◌^◌, IfOk, MatchOption, None, length, option_map};
+ghost use Rattle.std.specs.Prelude.{◌≡◌, ◌++◌, ◌≤◌, ◌^◌, ◌&&◌, suc, IfOk, IfSome, MatchOption, None, length, nat_lt, option_map};
 ghost use Rattle.wy_probe.specs.Tuples as spec;
 ghost use Rattle.wy_probe.specs.Tuples.{Fit};
 ghost use Rattle.wy_probe.specs.Turns.{IsTurn};
@@ -40,6 +40,7 @@ pub fn next_tuple_of(
     requires fit { Fit lengths.now tuple.now }
     requires few { length lengths.now ≤ 2 ^ 31 }
     ensures value { IfOk result (λ next. option_map (λ v. v.items) next ≡ spec.next_tuple lengths.now tuple.now) }
+    ensures fit { IfOk result (λ next. IfSome next (λ v. Fit lengths.now v.items)) }
 {
     match turn_of(lengths, tuple) {
         Some(turn) => {
@@ -71,9 +72,18 @@ pub struct Turn {
     pub sum: u64,
 }
 
+// Whether a position rises while the sum stays the same: where its list has one more, and those behind it have something
+// to give.
+fn rises(position: u32, length: u32, sum: u64) -> bool
+    ensures value { result ≡ (nat_lt (suc position) length && nat_lt 0 sum) }
+{
+    (position as u64) + 1 < length as u64 && 0 < sum
+}
+
 // The turn of the tuple; none behind the last of its sum.
 fn turn_of(lengths: &[u32], tuple: &[u32]) -> Option<Turn>
     requires fit { Fit lengths.now tuple.now }
+    requires same { length tuple.now ≡ length lengths.now }
     requires few { length lengths.now ≤ 2 ^ 31 }
     ensures value { MatchOption result (spec.next_alike lengths.now tuple.now ≡ None) (IsTurn lengths.now tuple.now) }
 {
@@ -82,12 +92,12 @@ fn turn_of(lengths: &[u32], tuple: &[u32]) -> Option<Turn>
     for turn in 0..tuple.len() {
         let place = tuple.len() - 1 - turn;
         let position = tuple[place];
-        let greatest = lengths[place] - 1;
-        if position < greatest && 0 < sum {
+        let length = lengths[place];
+        if rises(position, length, sum) {
             return Some(Turn { place, room, sum });
         }
         sum += position as u64;
-        room += greatest as u64;
+        room += length.saturating_sub(1) as u64;
     }
     None
 }
