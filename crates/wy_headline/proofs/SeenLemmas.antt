@@ -320,7 +320,6 @@ done_fine (dis source) s v status k h = answered_apart s (text_steps s kind_of.L
 done_fine (big functions seed budget steps) s v status k h =
     let g = large_right s functions seed budget steps status k h in
     shown_apart g.answer status k (large_comes s functions seed budget steps g.answer g.comes) g.shown
-
 done_fine (probe source name tuples ticks) s v status k h = answered_apart s (probe_steps s source name tuples ticks) (probe_good s source name tuples ticks) (probe_bad s source name tuples ticks) status k h
 
 asked_fine : (asked : Option Asked) (s : Setting) (v : Saving) (status : ℕ) (k : Sinks) → DoesIf asked s v status k → IsNeverStuck asked status k

@@ -7,7 +7,9 @@ ghost use Rattle.wy_probe.specs.Candidates as spec;
 ghost use Rattle.wy_probe.specs.Tables.{array_by, at, by_tables, data_in, record_by, row_choices, rows_in, table_of, tables_of};
 
 use crate::arrays::arrays;
-use crate::lists::{anything, copied, cut, first_few, joined, null_alone, those_in, with_ints, with_truths};
+use crate::lists::{
+    anything, copied, cut, first_few, joined, null_alone, those_in, with_ints, with_truths,
+};
 use crate::records::{Row, records, with_field};
 use std::alloc::{AllocError, Global};
 use wy_core::{Name, Ty, TyKind};
@@ -116,8 +118,7 @@ fn records_of(
 }
 
 // The record without fields, where there are none.
-fn empty_record(alloc: Global, count: usize) -> Result<Items<Value>, AllocError>
-{
+fn empty_record(alloc: Global, count: usize) -> Result<Items<Value>, AllocError> {
     let mut made = Items::new(alloc);
     if count == 0 {
         made.push(Value::Record(Items::new(alloc)))?;

@@ -108,11 +108,7 @@ fn is_among(value: &Value, others: &[Value]) -> bool
 }
 
 /// The first list, and then what the second has besides. It takes time in the product of their lengths.
-pub fn joined(
-    alloc: Global,
-    first: &[Value],
-    second: &[Value],
-) -> Result<Items<Value>, AllocError>
+pub fn joined(alloc: Global, first: &[Value], second: &[Value]) -> Result<Items<Value>, AllocError>
     ensures value { IfOk result (λ made. data_in made ≡ spec.joined (data_in first.now) (data_in second.now)) }
 {
     let mut made = copied(alloc, first)?;

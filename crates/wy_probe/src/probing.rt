@@ -78,11 +78,7 @@ pub fn probe(
 }
 
 // The values that are tried for each parameter.
-fn lists_of(
-    alloc: Global,
-    names: &Names,
-    params: &[Param],
-) -> Result<Items<Items<Value>>, NoMemory>
+fn lists_of(alloc: Global, names: &Names, params: &[Param]) -> Result<Items<Items<Value>>, NoMemory>
     ensures value { IfOk result (λ lists. table_of lists ≡ spec.lists_of (types_of names.now) (map seen_param params.now)) }
 {
     let tables = tables_of_types(alloc, names)?;

@@ -127,12 +127,7 @@ fn greatest_sum(lengths: &[u32]) -> u64
 }
 
 // Behind others, the first positions with this sum.
-fn with_least(
-    made: Vec<u32>,
-    lengths: &[u32],
-    room: u64,
-    sum: u64,
-) -> Result<Vec<u32>, AllocError>
+fn with_least(made: Vec<u32>, lengths: &[u32], room: u64, sum: u64) -> Result<Vec<u32>, AllocError>
     requires room { room ≡ spec.greatest_sum lengths.now }
     requires sum { sum ≤ room }
     ensures value { IfOk result (λ more. more.items ≡ made.items ++ spec.least lengths.now sum) }

@@ -30,6 +30,7 @@ const FAULT: u8 = 12;
 
 /// The most tuples, and the most ticks of each.
 const MOST_TUPLES: u64 = 1_000;
+
 const MOST_TICKS: u64 = 2_000;
 
 // The typed and assigned program of the source, or the answer with the line of the first fault.
@@ -96,12 +97,7 @@ fn fault_text(
 }
 
 // The line where no tuple faults.
-fn none_text(
-    alloc: Global,
-    tried: u32,
-    met: u32,
-    undecided: u32,
-) -> Result<String, AllocError>
+fn none_text(alloc: Global, tried: u32, met: u32, undecided: u32) -> Result<String, AllocError>
     ensures value { IfOk result (λ s. string_bytes s ≡ spec.none_line tried met undecided) }
 {
     format!(in alloc; "no fault: {tried} tried, {met} met, {undecided} undecided\n")
@@ -120,14 +116,7 @@ fn text_on_out(alloc: Global, status: u8, text: Result<Vec<u8>, AllocError>) -> 
 }
 
 // What the probe of the function or method comes to.
-fn probed(
-    alloc: Global,
-    bytes: &[u8],
-    typed: &Typed,
-    entry: u32,
-    tuples: u64,
-    ticks: u64,
-) -> Answer
+fn probed(alloc: Global, bytes: &[u8], typed: &Typed, entry: u32, tuples: u64, ticks: u64) -> Answer
     requires routine { IsRoutine (core_of typed.now) entry }
     ensures answers { (s : Setting) → Answers s (spec.probes bytes.now (core_of typed.now) tuples ticks entry) result }
 {
@@ -139,11 +128,13 @@ fn probed(
             let text = fault_text(alloc, bytes, args.as_slice(), kind, at);
             text_on_out(alloc, FAULT, text)
         }
-        Ok(ProbeEnd::None {
-            tried,
-            met,
-            undecided,
-        }) => match none_text(alloc, tried, met, undecided) {
+        Ok(
+            ProbeEnd::None {
+                tried,
+                met,
+                undecided,
+            },
+        ) => match none_text(alloc, tried, met, undecided) {
             Ok(text) => text_on_out(alloc, 0, Ok(text.into_bytes())),
             Err(_) => no_memory(alloc),
         },

@@ -38,10 +38,10 @@ returns-in_ok-made-in-Some-2-clause-value c =
     let next : k + 1 ≡ suc k = omega arith in
     let more : p + 1 ≡ suc p = omega arith in
     let whole : c.in_ok-made-in-Some-2.made.items ≡ take k ps ++ suc p ∷ least (drop (suc k) ns) left =
-        laid ∙ (ap (λ l. l ++ least (take (length ns - (k + 1)) (drop (k + 1) ns)) left) pushed
-        ∙ (ap (λ l. (take k ps ++ (p + 1) ∷ []) ++ least l left) (all_behind ns (k + 1))
-        ∙ (one_between (take k ps) (least (drop (k + 1) ns) left) (p + 1)
-        ∙ (ap (λ j. take k ps ++ (p + 1) ∷ least (drop j ns) left) next ∙ ap (λ q. take k ps ++ q ∷ least (drop (suc k) ns) left) more)))) in
+    laid ∙ (ap (λ l. l ++ least (take (length ns - (k + 1)) (drop (k + 1) ns)) left) pushed
+    ∙ (ap (λ l. (take k ps ++ (p + 1) ∷ []) ++ least l left) (all_behind ns (k + 1))
+    ∙ (one_between (take k ps) (least (drop (k + 1) ns) left) (p + 1)
+    ∙ (ap (λ j. take k ps ++ (p + 1) ∷ least (drop j ns) left) next ∙ ap (λ q. take k ps ++ q ∷ least (drop (suc k) ns) left) more)))) in
     ap (λ l. Some l) whole ∙ sym (ap (λ o. or_else o (risen ns (sum_of ps))) c.in-Some.ensures.value.next)
 
 pub returns-in_ok-made-in-Some-2-clause-fit : goal.returns-in_ok-made-in-Some-2-clause-fit
