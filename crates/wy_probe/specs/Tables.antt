@@ -38,19 +38,23 @@ row_choices values (MoreFieldTys name t fields) = take most (with_field name (ta
 abbrev mutual
   pub array_by : List Declared → List Table → Ty → List Datum
   array_by names [] t = no_array t
-  array_by names (table ∷ lower) t = arrays (by_tables names table lower t)
+  array_by names (table ∷ lower) t = arrays (values_by names (at table) (array_by names lower) (record_by names lower) t)
 
   pub record_by : List Declared → List Table → FieldTys → List Datum
   record_by names [] fields = no_record fields
-  record_by names (table ∷ lower) fields = map (λ fs. Record fs) (choices (by_tables names table lower) fields)
+  record_by names (table ∷ lower) fields = map (λ fs. Record fs) (choices (values_by names (at table) (array_by names lower) (record_by names lower)) fields)
 
-  -- the values of a type, where names have this table
-  pub by_tables : List Declared → Table → List Table → Ty → List Datum
-  by_tables names table lower = values_by names (at table) (array_by names lower) (record_by names lower)
+-- the values of a type, where names have this table
+abbrev pub by_tables : List Declared → Table → List Table → Ty → List Datum
+by_tables names table lower = values_by names (at table) (array_by names lower) (record_by names lower)
+
+-- the values of each of these types, by the table of the round before
+abbrev pub tables_for : List Declared → List Declared → List Table → Table → Table
+tables_for types names lower table = map (λ (d : Declared). by_tables names table lower d.ty) types
 
 -- the table of a round, from that of the round before
 abbrev pub next_table : List Declared → List Table → Table → Table
-next_table names lower table = map (λ (d : Declared). by_tables names table lower d.ty) names
+next_table names lower table = tables_for names names lower table
 
 abbrev pub no_lists : List Declared → Table
 no_lists [] = []

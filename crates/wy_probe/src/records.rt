@@ -76,7 +76,8 @@ pub fn records(alloc: Global, rows: Items<Row>) -> Result<Items<Value>, AllocErr
     ensures value { IfOk result (λ made. data_in made ≡ map (λ fs. Record fs) (rows_in rows)) }
 {
     let mut made = Items::new(alloc);
-    for row in rows.as_slice() {
+    let held = rows.as_slice();
+    for row in held {
         let fields = with_rest(alloc, Items::new(alloc), row.as_slice())?;
         made.push(Value::Record(fields))?;
     }

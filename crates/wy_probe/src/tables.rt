@@ -9,9 +9,6 @@ use wy_items::Items;
 use wy_types::Names;
 use wy_value::Value;
 
-/// How deep arrays and records nest in the values of a parameter.
-pub const DEPTH: usize = 2;
-
 /// The tables of each depth up to that of parameters, the deepest first.
 pub fn tables_of_types(alloc: Global, names: &Names) -> Result<Items<Table>, AllocError>
     ensures value { IfOk result (λ made. tables_of made ≡ spec_deeper (types_of names.now) (spec_deeper (types_of names.now) (spec_deeper (types_of names.now) []))) }
@@ -54,7 +51,8 @@ fn no_lists(alloc: Global, names: &Names) -> Result<Table, AllocError>
     ensures value { IfOk result (λ made. table_of made ≡ rounds (types_of names.now) [] 0) }
 {
     let mut table = Items::new(alloc);
-    for declared in names.declared.as_slice() {
+    let types = names.declared.as_slice();
+    for declared in types {
         let _each = declared;
         table.push(Items::new(alloc))?;
     }
@@ -71,7 +69,8 @@ fn next_table(
     ensures value { IfOk result (λ made. table_of made ≡ spec_next_table (types_of names.now) (tables_of lower.now) (table_of table.now)) }
 {
     let mut next = Items::new(alloc);
-    for declared in names.declared.as_slice() {
+    let types = names.declared.as_slice();
+    for declared in types {
         let values = values_of(alloc, names, table, lower, &declared.ty)?;
         next.push(values)?;
     }
