@@ -6,7 +6,7 @@ use Rattle.wy_core.specs.CoreTree.{Core}
 use Rattle.wy_core.specs.Types.{Ty}
 use Rattle.wy_top_source.specs.texts.Refusals as refusals
 use Rattle.wy_top_source.specs.texts.Sources as sources
-use Rattle.wy_top_source.specs.texts.Refusal.{Refusal}
+use Rattle.wy_top_source.specs.declared.refusal.Refusal.{Refusal}
 use Rattle.wy_vc.specs.Listed as vc
 use Rattle.wy_vc.specs.declared.fault.VcFault.{VcFault}
 use Rattle.wy_vc.specs.declared.fault.VcFault.TheVariants.{TooManyConds, TooManyTerms, NoMemory}

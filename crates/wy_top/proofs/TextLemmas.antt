@@ -5,7 +5,7 @@ use Rattle.wy_top_answers.specs.Steps.{Setting, Gives}
 use Rattle.wy_top_answers.specs.declared.answer.Answer.{Answer}
 use Rattle.wy_top_answers.proofs.CallLemmas.{called_value, called_fault}
 use Rattle.wy_top_source.specs.texts.Refusals.{is_no_memory}
-use Rattle.wy_top_source.specs.texts.Refusal.{Refusal}
+use Rattle.wy_top_source.specs.declared.refusal.Refusal.{Refusal}
 use Rattle.wy_top_source.specs.texts.Again.{IsAgain}
 use Rattle.wy_top_source.specs.texts.Texts.{IsDue, IsRefused, IsText}
 use Rattle.wy_top_source.specs.declared.texts.kind.Kind.{Kind}

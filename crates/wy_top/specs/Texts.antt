@@ -10,7 +10,7 @@ use Rattle.wy_top_answers.specs.declared.answer.Answer.{Answer}
 use Rattle.wy_link_load.specs.wy_parse_front.Places.{place_of}
 use Rattle.wy_top_answers.specs.report.Lines.{source_fault}
 use Rattle.wy_top_source.specs.texts.Refusals.{is_no_memory, offset, word}
-use Rattle.wy_top_source.specs.texts.Refusal.{Refusal}
+use Rattle.wy_top_source.specs.declared.refusal.Refusal.{Refusal}
 use Rattle.wy_top_source.specs.texts.Again.{IsAgain}
 use Rattle.wy_top_source.specs.texts.Texts.{IsDue, IsRefused, IsText}
 use Rattle.wy_top_source.specs.declared.texts.kind.Kind.{Kind}
