@@ -1,7 +1,7 @@
 -- what operands are, and what they aren't
 pub mod OperandLemmas
 -- equal values, and places of fields
-mod SameLemmas
+pub mod SameLemmas
 mod PartLemmas
 -- numbers
 mod NumberLemmas

@@ -35,6 +35,7 @@ use Rattle.wy_search_bounds.proofs.wy_check_laws_proofs.sound_lemmas.MemberLemma
 use Rattle.wy_search_bounds.proofs.wy_check_laws_proofs.sound_lemmas.NodeLemmas.{AreSortedLiterals, IsSortedNode, added_sorted}
 use Rattle.wy_search_bounds.proofs.wy_check_laws_proofs.sound_lemmas.RangeLemmas.{instance_holds}
 use Rattle.wy_search_bounds.proofs.wy_check_laws_proofs.sound_lemmas.StepLemmas.{Leads, step_leads, int_is, said_sorted}
+use Rattle.wy_search_laws.proofs.closing_lemmas.SortedLemmas.{measured_sorted}
 use Rattle.wy_search_laws.proofs.sound_lemmas.StandingLemmas.{AreIndices, node_sorted}
 
 -- ---- following
@@ -91,10 +92,6 @@ module _ (types : List Entry) (are_closed : AreClosed types) (entries : AreSorte
   terms_both : (ts us : List Term) → AreSortedTerms ts → AreSortedTerms us → AreSortedTerms (ts ++ us)
   terms_both [] us h g = g
   terms_both (t ∷ ts) us h g = (h.0, terms_both ts us h.1 g)
-
-  measured_sorted : (t : Term) → IsSorted t → AreSortedTerms (measured t)
-  measured_sorted (Of term.len (part v no_parts)) h = (h.1, tt)
-  measured_sorted t h = tt
 
   all_measured_sorted : (ts : List Term) → AreSortedTerms ts → AreSortedTerms (all_measured ts)
   all_measured_sorted [] h = tt

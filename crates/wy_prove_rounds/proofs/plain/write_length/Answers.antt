@@ -8,7 +8,7 @@ use Rattle.wy_term.specs.Condition.{condition_of}
 use Rattle.wy_term.specs.Nodes.{tree_at}
 use Rattle.wy_term.specs.Term.{Term}
 use Rattle.wy_prove_rounds.specs.Moving.{IsFit}
-use Rattle.wy_prove_rounds.proofs.FactLemmas.{measured_sorted}
+use Rattle.wy_prove_drafts.proofs.wy_search_laws_proofs.closing_lemmas.SortedLemmas.{measured_sorted}
 use Rattle.wy_prove_rounds.proofs.MovingLemmas.{if_moves, moves_none}
 use Rattle.wy_prove_rounds.proofs.plain.write_length.Goals as goal
 
