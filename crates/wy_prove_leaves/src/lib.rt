@@ -5,3 +5,4 @@
 
 pub mod linked;
 pub mod stated_sums;
+pub use wy_lin_eliminate::common;

@@ -27,3 +27,4 @@ pub use wy_search::{
     is_element, measured, no_forms, nothing_carried, products_of, read_count, search, standing,
     terms_present, with_atom, with_instances, with_next_atom, with_witnesses, written_count,
 };
+pub use wy_prove_drafts::Present;

@@ -7,7 +7,7 @@ ghost use Rattle.wy_term.specs.Condition.{Entry};
 ghost use Rattle.wy_term.specs.Nodes.{tree_at};
 
 use crate::stated_sums::pairs::twice;
-use wy_check_nodes::{cut_stated, form_of_sum};
+use wy_prove_drafts::{cut_stated, form_of_sum};
 use wy_lin_eliminate::common;
 use wy_prove_drafts::{Draft, literal_number, write_cut};
 use wy_term::{NoMemory, Terms};

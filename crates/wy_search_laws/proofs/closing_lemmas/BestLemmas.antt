@@ -6,7 +6,7 @@ use Rattle.wy_lemmas.proofs.Options.{some_same as some_is}
 use Rattle.wy_search_bounds.specs.wy_term.Data.{quotient_down}
 use Rattle.wy_search_bounds.specs.wy_lin.Linear.{◌>>=◌}
 use Rattle.wy_search_bounds.specs.wy_check_spec.valid.Products.{Affine}
-use Rattle.wy_search_spec.specs.Expansion.{tighter, with_bound}
+use Rattle.wy_search_bounds.specs.wy_search_spec.Expansion.{tighter, with_bound}
 
 abbrev pub IsBest : (Affine → Type 0) → Option (Affine × ℤ) → Type 0
 IsBest P None = Unit {0}

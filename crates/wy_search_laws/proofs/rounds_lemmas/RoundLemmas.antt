@@ -16,8 +16,8 @@ use Rattle.wy_search_bounds.specs.wy_term_subst.Names.{any_symbol, new_number}
 use Rattle.wy_search_bounds.specs.wy_check_spec.valid.Ranges.{Range, of_each, of_one, is_int, instance_at, witness, witnessed_at, numbers_in_node}
 use Rattle.wy_search_bounds.specs.wy_check_spec.valid.Membership.{fact_among}
 use Rattle.wy_search_bounds.specs.wy_check_spec.valid.Validity.{after, left_with, left_with_one}
-use Rattle.wy_search_spec.specs.Standing.{standing}
-use Rattle.wy_search_spec.specs.Expansion.{Spot, with_witness, with_witnesses, index_terms, with_instances_of, with_instances_by, with_instances, with_some, with_facts_of_one, measured, all_measured, read_from, with_elements, with_all_elements, with_pairs_of, with_pairs, equal_to, kind_says, is_whole_kind, in_equation, everything, kind_fact, with_kind_facts, with_facts_by, with_schemas, with_facts}
+use Rattle.wy_search_bounds.specs.wy_search_spec.Standing.{standing}
+use Rattle.wy_search_bounds.specs.wy_search_spec.Expansion.{Spot, with_witness, with_witnesses, index_terms, with_instances_of, with_instances_by, with_instances, with_some, with_facts_of_one, measured, all_measured, read_from, with_elements, with_all_elements, with_pairs_of, with_pairs, equal_to, kind_says, is_whole_kind, in_equation, everything, kind_fact, with_kind_facts, with_facts_by, with_schemas, with_facts}
 use Rattle.wy_search_bounds.specs.wy_check_laws.sound.Sortedness.{AreSortedTerms, IsSortedStep}
 use Rattle.wy_search_bounds.proofs.wy_check_laws_proofs.sound_lemmas.MadeLemmas.{IsFormula, IsVal, equal_sorted, either_sorted, implies_sorted, int_sorted, num_sorted}
 use Rattle.wy_search_bounds.proofs.wy_check_laws_proofs.sound_lemmas.NodeLemmas.{IsSortedNode, added_sorted}

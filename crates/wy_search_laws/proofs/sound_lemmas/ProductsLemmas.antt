@@ -18,8 +18,8 @@ use Rattle.wy_search_bounds.proofs.wy_check_spec_proofs.valid_lemmas.SharedLemma
 use Rattle.wy_search_bounds.specs.wy_check_spec.valid.Literals.{formula_of, literal_at}
 use Rattle.wy_search_bounds.specs.wy_check_spec.valid.Sums.{all_zero, form_at}
 use Rattle.wy_search_bounds.specs.wy_check_spec.valid.Products.{Affine, affine, as_product, product_of, product_stated}
-use Rattle.wy_search_spec.specs.Standing.{standing}
-use Rattle.wy_search_spec.specs.Expansion.{with_some, tighter, with_bound, bound_by_literal, best_bound, bound_of, with_product, with_four, with_forms, with_products_of, with_products_by, with_products}
+use Rattle.wy_search_bounds.specs.wy_search_spec.Standing.{standing}
+use Rattle.wy_search_bounds.specs.wy_search_spec.Expansion.{with_some, tighter, with_bound, bound_by_literal, best_bound, bound_of, with_product, with_four, with_forms, with_products_of, with_products_by, with_products}
 use Rattle.wy_search_bounds.specs.wy_check_laws.sound.Sortedness.{AreSortedTerms}
 use Rattle.wy_search_bounds.proofs.wy_check_laws_proofs.sound_lemmas.NodeLemmas.{IsSortedNode}
 use Rattle.wy_search_bounds.proofs.wy_check_laws_proofs.sound_lemmas.FormSortLemmas.{product_sorted}

@@ -1,7 +1,7 @@
 use Rattle.std.proofs.Common.{◌≡◌, ◌∙◌, List, [], ◌∷◌, Bool, true, false, ap, rules, subst, sym}
 use Rattle.wy_prove_drafts.specs.Draft.{seen_draft}
 use Rattle.wy_prove_drafts.specs.wy_check_spec.judge.Node.{Node}
-use Rattle.wy_check_nodes.specs.Seen.{signed}
+use Rattle.wy_prove_drafts.specs.wy_check_nodes.Seen.{signed}
 use Rattle.wy_prove_drafts.specs.wy_search_spec.Expansion.{measured, with_facts_of_one}
 use Rattle.wy_prove_drafts.specs.wy_check_laws.sound.Sortedness.{AreSortedTerms}
 use Rattle.wy_term.specs.Condition.{condition_of}
