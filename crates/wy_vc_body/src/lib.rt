@@ -39,3 +39,4 @@ pub use wy_vc_exprs::{
     Goal, Maker, Walk, assume_clauses, assume_in_type, call, type_formula, variable, walked,
     walked_all, word_of,
 };
+pub use wy_vc_exprs::{denied, disjunction, formula, put, val_name};
