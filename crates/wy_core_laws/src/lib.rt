@@ -1,2 +1,0 @@
-//! Laws of the core: what an expression and a type stand for, by their kind. There is no code here.
-#![tactic(auto)]
