@@ -13,8 +13,8 @@ import tempfile
 PROGRAM = os.path.abspath(sys.argv[1])
 SOURCE = b"function inc(int x) -> (int r)\nrequires x < 100\nensures r > x:\n    return x + 1\n"
 CERTIFICATES = b"wycert 1\ncond 1\nsum 1 2 1 5\ncond 2\nsum 1 4 1 6\ncond 3\nsum 1 7\nend\n"
-KEYWORDS = """type is where function method property requires ensures if else while do switch case default for in return break continue
-assert fail skip all some null bool int any void true false import""".encode().split()
+KEYWORDS = b"""type is where function method property requires ensures if else while do switch case default for in return
+break continue assert fail skip all some null bool int any void true false import""".split()
 COMPARISONS = {b"<", b"<=", b">", b">=", b"==", b"!="}
 
 
@@ -90,7 +90,7 @@ class Reader:
 
     def statement(self):
         if self.sees(b"NAME"):
-            # a variable of a named type, or what begins with a variable's or a call's name: the source has none of them whole
+            # a declaration, an assignment or a call begins so: the source has none of them whole
             self.take(b"NAME")
             self.take(b"NAME", b"=", b"(", b"[", b".")
         self.take(b"return")
@@ -131,13 +131,15 @@ def cases():
         cut = CERTIFICATES[:n]
         wanted = 6, b"", f"c:{fault_of_certificates(cut)}\n".encode()
         yield f"{n} bytes of certificates", ["check", "inc.wy", "c"], {"inc.wy": SOURCE, "c": cut}, wanted
-    yield "certificates", ["check", "inc.wy", "c", "--budget", "0"], {"inc.wy": SOURCE, "c": CERTIFICATES}, (0, b"accepted 3 conditions\n", b"")
+    accepted = 0, b"accepted 3 conditions\n", b""
+    files = {"inc.wy": SOURCE, "c": CERTIFICATES}
+    yield "certificates", ["check", "inc.wy", "c", "--budget", "0"], files, accepted
     for n in range(len(SOURCE) + 1):
         yield f"{n} bytes of a source", ["fmt", "i.wy"], {"i.wy": SOURCE[:n]}, layout_of(SOURCE[:n])
-    text = "({head: 12, tail: [null, true]})"
+    text, files = "({head: 12, tail: [null, true]})", {"a.wy": b"function f(any x) -> any:\n    return x\n"}
     for n in range(len(text)):
         wanted = 7, b"", b"wy: argument text: Shape at %d\n" % n
-        yield f"{n} bytes of arguments", ["run", "a.wy", "none", "f", text[:n]], {"a.wy": b"function f(any x) -> any:\n    return x\n"}, wanted
+        yield f"{n} bytes of arguments", ["run", "a.wy", "none", "f", text[:n]], files, wanted
 
 
 def main():

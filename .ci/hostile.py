@@ -15,7 +15,14 @@ import threading
 PROGRAM = os.path.abspath(sys.argv[1])
 INC = "function inc(int x) -> (int r)\nrequires x < 100\nensures r > x:\n    return x + 1\n"
 ABS = "function abs(int x) -> (int r)\nensures r >= 0:\n    if x < 0:\n        return -x\n    return x\n"
-HELLO = 'method hello(int n) -> (int r):\n    print("hi ")\n    print_int(n)\n    print("\\n")\n    return n\nmethod six():\n    print("abcdef")\n'
+HELLO = """method hello(int n) -> (int r):
+    print("hi ")
+    print_int(n)
+    print("\\n")
+    return n
+method six():
+    print("abcdef")
+"""
 LONG = "function f() -> (int r):\n" + "    assert true\n" * 9000 + "    return 0\n"
 ACCEPTED = (0, b"accepted 3 conditions\n", b"")
 FORBIDDEN = (4, b"", b"wy: inc.wy: load failed\n")
@@ -42,14 +49,14 @@ class Room:
         return ran.returncode, ran.stdout or b"", ran.stderr or b""
 
     def within(self, sink, most, *words):
-        """A call one of whose sinks is a file that takes so many bytes: its status, what the file has, and the other sink's text."""
+        """A call one of whose sinks is a file that takes so many bytes: its status, the file, and the other sink's text."""
         with open(self.path("sink"), "wb") as file:
             status, out, err = self.run(*words, before=lambda: short_files(most), **{sink: file})
         with open(self.path("sink"), "rb") as file:
             return status, file.read(), err if sink == "out" else out
 
     def loads(self, name):
-        """How a file is refused as a source and as certificates, where both are refused alike: the status and the line's end."""
+        """How a file is refused, as a source and as certificates alike: the status and the end of the line."""
         status, out, err = self.run("check", name, "none")
         other = self.run("check", "inc.wy", name)
         begins = b"wy: " + name.encode() + b": "
@@ -134,8 +141,9 @@ def a_pipe_is_read(room):
 
 # ---- sinks
 def a_full_out(room):
+    calls = [CHECK, *((it, "inc.wy") for it in ("fmt", "conds", "dis")), ("run", "hello.wy", "none", "six", "()")]
     with open("/dev/full", "wb") as full:
-        return all(room.run(*words, out=full) == (5, b"", b"") for words in (CHECK, ("fmt", "inc.wy"), ("conds", "inc.wy"), ("dis", "inc.wy"), ("run", "hello.wy", "none", "six", "()")))
+        return all(room.run(*words, out=full) == (5, b"", b"") for words in calls)
 
 
 def a_full_err(room):

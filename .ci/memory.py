@@ -1,8 +1,8 @@
 """Refuses each request for memory of some calls in turn: `memory.py PROGRAM`.
 
-Each call answers 9 with nothing on standard error, or what it answers with ample memory; what it has written on standard output by then is
-a beginning of what is due, and a save that isn't made leaves the old file. `refuse.c`, beside this, stands between the program and the
-system; where no C compiler is there, nothing is tried. The last line counts the requests.
+Each call answers 9 with nothing on standard error, or what it answers with ample memory. What it has written on standard output by
+then is a beginning of what is due, and a save that isn't made leaves the old file. `refuse.c`, beside this, stands between the
+program and the system; where no C compiler is there, nothing is tried. The last line counts the requests.
 """
 import concurrent.futures
 import os
@@ -14,11 +14,11 @@ import tempfile
 HERE = os.path.dirname(os.path.abspath(__file__))
 PROGRAM = os.path.abspath(sys.argv[1])
 SECONDS = 600
-STORED = {"inc.wy": "commands/inc.wy", "inc.cert": "commands/inc.cert", "max.wy": "commands/max.wy", "share.wy": "commands/share.wy", "hello.wy": "commands/hello.wy", "list.wy": "programs/list.wy"}
+STORED = ["inc.wy", "inc.cert", "max.wy", "share.wy", "hello.wy"]
 OLD = b"an old file\n"
 
-# By turns: a run by certificates; one by a search; an update in a loop, and one of a value that is shared; what is printed; refusals of
-# a condition, of words, of a source, of certificates, of arguments; and what lists code, conditions and a program.
+# In this order: a run by certificates; one by a search; an update in a loop, and one of a value that is shared; what is printed;
+# refusals of a condition, of words, of a source, of certificates, of arguments; and what lists code, conditions and a program.
 CALLS = [
     ["run", "inc.wy", "inc.cert", "inc", "(5)"],
     ["run", "max.wy", "none", "max", "([3, 9, 9, 1])"],
@@ -47,8 +47,8 @@ def compiled(room):
 
 
 def filled(room):
-    for name, stored in STORED.items():
-        shutil.copy(f"{HERE}/../runs/{stored}", f"{room}/{name}")
+    for name in STORED:
+        shutil.copy(f"{HERE}/../runs/commands/{name}", f"{room}/{name}")
 
 
 def ran(words, room, **settings):
@@ -84,24 +84,24 @@ def saved(library, room):
     """Has each request of a save refused, in a call of its own."""
     room = tempfile.mkdtemp(dir=room)
     filled(room)
-    words, wrong, number, new = ["prove", "inc.wy", "o"], set(), 0, None
+    words, wrong, number, log = ["prove", "inc.wy", "o"], set(), 0, f"{room}.log"
     due = ran(words, room)
     with open(f"{room}/o", "rb") as file:
         new = file.read()
-    names, is_ample = sorted(os.listdir(room)), 0
-    # behind so many calls without a refusal there is no further request
-    while is_ample < 20:
+    names = sorted(os.listdir(room))
+    while number == 0 or os.path.exists(log):
         number += 1
+        if os.path.exists(log):
+            os.remove(log)
         with open(f"{room}/o", "wb") as file:
             file.write(OLD)
-        got = ran(words, room, LD_PRELOAD=library, WY_REFUSE=str(number))
+        got = ran(words, room, LD_PRELOAD=library, WY_REFUSE=str(number), WY_LOG=log)
         with open(f"{room}/o", "rb") as file:
             kept = file.read()
-        is_ample = is_ample + 1 if got == due else 0
         is_right = got == due and kept == new or got == (9, b"", b"") and kept in (OLD, new)
         if not is_right or sorted(os.listdir(room)) != names:
             wrong.add((number, got, kept))
-    return number - 20, wrong
+    return number - 1, wrong
 
 
 def main():

@@ -1,6 +1,6 @@
-/* Loaded before a program, so that its requests for memory come here. WY_REFUSE=N has the Nth find none. WY_REFUSE=each has a copy of
-   the process go on from each request as if that one found none; the file WY_LOG gets a line for each: the copy's status, and what it
-   wrote on standard output and on standard error from there on, in hexadecimal digits. */
+/* Loaded before a program, so that its requests for memory come here. WY_REFUSE=N has the Nth find none, and then makes the file
+   WY_LOG. WY_REFUSE=each has a copy of the process go on from each request as if that one found none; WY_LOG gets a line for
+   each: the copy's status, and what it wrote on standard output and on standard error from there on, in hexadecimal digits. */
 #define _GNU_SOURCE
 #include <errno.h>
 #include <fcntl.h>
@@ -15,6 +15,12 @@ extern void *__libc_malloc(size_t);
 extern void *__libc_realloc(void *, size_t);
 
 static int is_copy;
+
+static int opened_log(void) {
+  int log = open(getenv("WY_LOG"), O_CREAT | O_WRONLY | O_APPEND, 0600);
+  if (log < 0) abort();
+  return log;
+}
 
 static void write_number(int log, int status) {
   char digits[16];
@@ -45,8 +51,7 @@ static int is_refused_in_a_copy(void) {
     return 1;
   }
   if (waitpid(copy, &status, 0) != copy) abort();
-  int log = open(getenv("WY_LOG"), O_CREAT | O_WRONLY | O_APPEND, 0600);
-  if (log < 0) abort();
+  int log = opened_log();
   write_number(log, WIFEXITED(status) ? WEXITSTATUS(status) : -WTERMSIG(status));
   write_bytes(log, out, ' ');
   write_bytes(log, err, '\n');
@@ -61,7 +66,13 @@ static int is_refused(void) {
   const char *which = getenv("WY_REFUSE");
   long number = __atomic_add_fetch(&requests, 1, __ATOMIC_SEQ_CST);
   if (!which || is_copy) return 0;
-  if (!(strcmp(which, "each") ? number == atol(which) : is_refused_in_a_copy())) return 0;
+  if (strcmp(which, "each") == 0) {
+    if (!is_refused_in_a_copy()) return 0;
+  } else if (number == atol(which)) {
+    close(opened_log());
+  } else {
+    return 0;
+  }
   errno = ENOMEM;
   return 1;
 }
