@@ -167,7 +167,7 @@ def a_closed_err(room):
 
 
 def an_out_that_nobody_reads(room):
-    """Where the signal of such a pipe is ignored; else the system ends the process by it."""
+    """Whether or not the signal of such a pipe ends processes by itself."""
     ended = []
     for action in (signal.SIG_IGN, signal.SIG_DFL):
         reader, writer = os.pipe()
@@ -175,7 +175,7 @@ def an_out_that_nobody_reads(room):
         how = {"cwd": room.folder, "stdout": writer, "stderr": subprocess.PIPE, "check": False, "restore_signals": False}
         ended.append(subprocess.run([PROGRAM, *CHECK], preexec_fn=lambda: signal.signal(signal.SIGPIPE, action), **how))
         os.close(writer)
-    return ended[0].returncode == 5 and ended[1].returncode in (5, -signal.SIGPIPE) and all(it.stderr == b"" for it in ended)
+    return all((it.returncode, it.stderr) == (5, b"") for it in ended)
 
 
 def an_out_that_takes_some_bytes(room):
