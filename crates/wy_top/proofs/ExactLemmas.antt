@@ -3,7 +3,7 @@ use Rattle.std.proofs.Common.{◌≡◌, ◌⊎◌, ℕ, List, Bool, Ok, Err, in
 use Rattle.wy_top_answers.specs.Showing.{ShowsWhole, Shown, Sinks}
 use Rattle.wy_top_answers.specs.Steps.{Came, EndsFree, IsFree, IsOutside, Sense, Setting, answer_in, failed, from_outside, memory, uncertified}
 use Rattle.wy_top_answers.specs.declared.answer.Answer.{Answer}
-use Rattle.wy_top_words.specs.CommandLine.{check, run, prove, conds, fmt, dis, big}
+use Rattle.wy_top_words.specs.CommandLine.{check, run, prove, conds, fmt, dis, big, probe}
 use Rattle.wy_top.specs.Exact.{AnswersExactly, DoesExactly, IsElse, ShowsDue}
 use Rattle.wy_top.specs.Saves.{Saves, Saving, whole, failed as save_failed, no_memory as save_lacks_memory}
 use Rattle.wy_top.specs.Statement.{IsAnswered, ShowsProof, ShowsRun}
@@ -87,3 +87,4 @@ does_exactly (conds source) s v status k h = answered s _ status k h
 does_exactly (fmt source) s v status k h = answered s _ status k h
 does_exactly (dis source) s v status k h = answered s _ status k h
 does_exactly (big functions seed budget steps) s v status k h = answered s _ status k h
+does_exactly (probe source name tuples ticks) s v status k h = answered s _ status k h

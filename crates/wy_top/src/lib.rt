@@ -14,7 +14,7 @@
 //!
 //! `commands` has the whole call, [`run_words`]: it reads the words and does what they ask for. `texts` has the commands that
 //! write a text of a source (`fmt`, `dis`, `conds`), `saving` the one that saves certificates, `launching` and `running` the
-//! one that runs a program, and `making` the one that makes a large program. What a call comes to, and what sinks and files show
+//! one that runs a program, `making` the one that makes a large program, and `probing` the one that looks for faults. What a call comes to, and what sinks and files show
 //! of it, is said in `specs/Statement`. It runs accepted programs alone, and asks that these never lack a step (`specs/Going`): a
 //! law on them stands above this crate.
 //!
@@ -39,6 +39,7 @@ mod launching;
 mod listing;
 mod making;
 mod owing;
+mod probing;
 mod proving;
 mod reading;
 mod refusing;

@@ -1,0 +1,5 @@
+use Rattle.wy_probe.proofs.OnceLemmas.{finds_once}
+use Rattle.wy_probe.proofs.laws.there_is_one_finding.Goals as goal
+
+pub returns : goal.returns
+returns c = record { once = finds_once }
