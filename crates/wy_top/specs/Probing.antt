@@ -1,26 +1,25 @@
 -- What does the command `probe` come to?
-use Rattle.std.specs.Prelude.{◌≡◌, ℕ, List, [], ◌∷◌, codes, Ok}
+use Rattle.std.specs.Prelude.{◌≡◌, ℕ, List, [], ◌∷◌, codes, false, Ok}
 use Rattle.std.specs.Fmt.{decimal}
-use Rattle.wy_core.specs.CoreTree.{Core, Routine, routines_of}
+use Rattle.wy_core.specs.CoreTree.{Core, Routine}
 use Rattle.wy_core.specs.Types.{Ty}
 use Rattle.wy_term.specs.Condition.{word_of}
 use Rattle.wy_term.specs.declared.cond.CondKind.{CondKind}
 use Rattle.wy_value.specs.Datum.{Datum}
 use Rattle.wy_value.specs.Seen.{data_of}
 use Rattle.wy_value.specs.Shown.{shown_items}
-use Rattle.wy_parse_front.specs.Places.{place_of}
-use Rattle.wy_mach_run.specs.Entries.{IsEntry, LacksEntry}
+use Rattle.wy_link_load.specs.Alone.{loads_alone}
+use Rattle.wy_link_load.specs.wy_parse_front.Places.{place_of}
+use Rattle.wy_mach_run.specs.Entries.{HasNoEntry, IsEntry}
 use Rattle.wy_probe.specs.Comes.{probe_of}
 use Rattle.wy_probe.specs.Trials.{Finding, Faulted, Faultless, FindsFirst}
 use Rattle.wy_top_answers.specs.Answers.{written}
-use Rattle.wy_top_answers.specs.Calls.{called}
-use Rattle.wy_top_answers.specs.Loading.{loaded, source_limit}
+use Rattle.wy_top_answers.specs.Calls.{Faults, called}
 use Rattle.wy_top_answers.specs.Steps.{Came, Sense, Setting, and_then, both}
 use Rattle.wy_top_answers.specs.declared.answer.Answer.{Answer}
-use Rattle.wy_top_answers.specs.report.Lines.{line}
+use Rattle.wy_top_answers.specs.report.Lines.{line, no_entry}
 use Rattle.wy_top_source.specs.Sources.{IsProgram}
 use Rattle.wy_top_source.specs.declared.texts.kind.Kind.TheVariants.{Listing}
-use Rattle.wy_top.specs.Launching.{start_faults}
 use Rattle.wy_top.specs.Texts.{is_faulted, source_faults}
 
 -- ---- what is written
@@ -52,9 +51,13 @@ checked core flow = record { core = core; flow = flow }
 abbrev pub reads : List ℕ → List ℕ → Sense → Came Checked → Type 0
 reads name bytes = called (λ m p. IsProgram bytes p.core p.flow) (source_faults name bytes) (is_faulted Listing bytes)
 
+-- that there is no function or method of this name
+abbrev pub entry_faults : List ℕ → Faults (Unit {0})
+entry_faults name = record { lacks_memory = λ f. false; status = λ f. 7; lines = λ f. no_entry name }
+
 -- the number of the function or method of this name, or that there is none
 abbrev pub enters : Core ℕ → List ℕ → Sense → Came ℕ → Type 0
-enters core name = called (λ m number. (r : Routine ℕ) × IsEntry core name number r) (start_faults [] name) (λ m f. LacksEntry (routines_of core) name f)
+enters core name = called (λ m number. (r : Routine ℕ) × IsEntry core name number r) (entry_faults name) (λ m f. HasNoEntry core name)
 
 -- what is found among the first so many tuples, each with so many ticks, is the answer
 pub record IsProbed (bytes : List ℕ) (core : Core ℕ) (tuples ticks entry : ℕ) (r : Came Answer) : Type 0 where
@@ -70,4 +73,4 @@ probes_source source name tuples ticks bytes = and_then (reads source bytes) (λ
 
 -- the order of a probe: the source, its text, names, types and assignment, the entry, the tuples
 abbrev pub probe_steps : Setting → List ℕ → List ℕ → ℕ → ℕ → Sense → Came Answer → Type 0
-probe_steps s source name tuples ticks = and_then (both (loaded s source source_limit)) (λ bytes. probes_source source name tuples ticks bytes)
+probe_steps s source name tuples ticks = and_then (loads_alone s source) (λ bytes. probes_source source name tuples ticks bytes)

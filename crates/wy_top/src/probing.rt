@@ -1,34 +1,28 @@
 //! The command `probe`: arguments on which the program of a source faults.
-ghost use Rattle.std.specs.Prelude.{◌≡◌, ◌≤◌, ◌<◌, ◌++◌, ◌^◌, ℕ, List, length, map, IfOk};
-ghost use Rattle.std.specs.String.{string_bytes};
-ghost use Rattle.wy_core.specs.CoreTree.{routines_of};
+ghost use Rattle.std.specs.Prelude.{◌≡◌, ◌≤◌, ◌<◌, ◌^◌, ◌⊎◌, ℕ, List, length, IfOk};
 ghost use Rattle.wy_flow_spec.specs.typing.TypedPrograms.{core_of, flow_of};
-ghost use Rattle.wy_mach_run.specs.Entries.{IsEntry};
-ghost use Rattle.wy_probe.specs.Comes.{probe_of};
-ghost use Rattle.wy_probe.specs.Trials.{FindsFirst, IsRoutine, seen_end};
+ghost use Rattle.wy_probe.specs.Trials.{IsRoutine, seen_end};
+ghost use Rattle.wy_top_answers.specs.Answers as answers;
 ghost use Rattle.wy_top_answers.specs.Steps.{Answers, During, Gives, Setting, came};
-ghost use Rattle.wy_value.specs.Seen.{data_of, seen};
-ghost use Rattle.wy_value.specs.Shown.{shown_items};
 ghost use Rattle.wy_top.specs.Probing as spec;
 
+use crate::probe_lines::{fault_line, none_line};
 use crate::texts::fault_answer;
-use std::alloc::{AllocError, Global};
+use std::alloc::Global;
 use wy_data::Bytes;
 use wy_flow_spec::typing::Typed;
+use wy_link_load::load_alone;
 use wy_mach_run::{StartFault, entry_of};
-use wy_parse_front::locate;
 use wy_port::Files;
 use wy_probe::{ProbeEnd, probe};
-use wy_term::CondKind;
 use wy_top_answers::report::no_entry;
-use wy_top_answers::{Answer, SOURCE_LIMIT, load, no_memory, refusal};
+use wy_top_answers::{Answer, no_memory, refusal};
 use wy_top_source::read_program;
-use wy_value::{Value, show};
 
 /// The status of a fault that was found.
 const FAULT: u8 = 12;
 
-/// The most tuples, and the most ticks of each.
+/// The most tuples, and the most ticks of each: words never ask for more.
 const MOST_TUPLES: u64 = 1_000;
 
 const MOST_TICKS: u64 = 2_000;
@@ -57,65 +51,37 @@ fn entry_in(alloc: Global, typed: &Typed, name: &str) -> Result<u32, Answer>
     }
 }
 
-// The texts of the arguments, with a comma and a space between them.
-fn arguments_text(alloc: Global, args: &[Value]) -> Result<Vec<u8>, AllocError>
-    ensures value { IfOk result (λ text. text.items ≡ shown_items (data_of (map seen args.now))) }
+// The answer with what was found.
+fn found_answer(alloc: Global, bytes: &[u8], end: ProbeEnd) -> Answer
+    ensures value { (result ≡ spec.found_answer bytes.now (seen_end end)) ⊎ (result ≡ answers.no_memory) }
 {
-    let mut text = Vec::new(alloc);
-    let mut first = true;
-    for arg in args {
-        if !first {
-            text.extend_from_slice(b", ")?;
+    match end {
+        ProbeEnd::Found { args, kind, at, .. } => {
+            match fault_line(alloc, bytes, args.as_slice(), kind, at) {
+                Ok(line) => Answer {
+                    status: FAULT,
+                    out: Bytes::new(line),
+                    err: Bytes::new(Vec::new(alloc)),
+                },
+                Err(_) => no_memory(alloc),
+            }
         }
-        first = false;
-        match show(alloc, arg) {
-            Ok(shown) => text.extend_from_slice(shown.as_slice())?,
-            Err(_) => return Err(AllocError),
-        }
-    }
-    Ok(text)
-}
-
-// The line of a fault, at its place in the source, on these arguments.
-fn fault_text(
-    alloc: Global,
-    bytes: &[u8],
-    args: &[Value],
-    kind: CondKind,
-    at: u32,
-) -> Result<Vec<u8>, AllocError>
-    ensures value { IfOk result (λ text. text.items ≡ spec.fault_line bytes.now (map seen args.now) kind at) }
-{
-    let place = locate(bytes, at);
-    let word = kind.word();
-    let head = format!(in alloc; "fault {word} at {}:{} on (", place.line, place.column)?;
-    let shown = arguments_text(alloc, args)?;
-    let mut text = head.into_bytes();
-    text.extend_from_slice(shown.as_slice())?;
-    text.extend_from_slice(b")\n")?;
-    Ok(text)
-}
-
-// The line where no tuple faults.
-fn none_text(alloc: Global, tried: u32, met: u32, undecided: u32) -> Result<String, AllocError>
-    ensures value { IfOk result (λ s. string_bytes s ≡ spec.none_line tried met undecided) }
-{
-    format!(in alloc; "no fault: {tried} tried, {met} met, {undecided} undecided\n")
-}
-
-// The answer with this status and this text on out.
-fn text_on_out(alloc: Global, status: u8, text: Result<Vec<u8>, AllocError>) -> Answer {
-    match text {
-        Ok(text) => Answer {
-            status,
-            out: Bytes::new(text),
-            err: Bytes::new(Vec::new(alloc)),
+        ProbeEnd::None {
+            tried,
+            met,
+            undecided,
+        } => match none_line(alloc, tried, met, undecided) {
+            Ok(line) => Answer {
+                status: 0,
+                out: Bytes::new(line.into_bytes()),
+                err: Bytes::new(Vec::new(alloc)),
+            },
+            Err(_) => no_memory(alloc),
         },
-        Err(_) => no_memory(alloc),
     }
 }
 
-// What the probe of the function or method comes to.
+// What the probe of the function or method with this number comes to.
 fn probed(alloc: Global, bytes: &[u8], typed: &Typed, entry: u32, tuples: u64, ticks: u64) -> Answer
     requires routine { IsRoutine (core_of typed.now) entry }
     ensures answers { (s : Setting) → Answers s (spec.probes bytes.now (core_of typed.now) tuples ticks entry) result }
@@ -124,20 +90,7 @@ fn probed(alloc: Global, bytes: &[u8], typed: &Typed, entry: u32, tuples: u64, t
         return no_memory(alloc);
     }
     match probe(alloc, typed, entry, tuples as u32, ticks as u32) {
-        Ok(ProbeEnd::Found { args, kind, at, .. }) => {
-            let text = fault_text(alloc, bytes, args.as_slice(), kind, at);
-            text_on_out(alloc, FAULT, text)
-        }
-        Ok(
-            ProbeEnd::None {
-                tried,
-                met,
-                undecided,
-            },
-        ) => match none_text(alloc, tried, met, undecided) {
-            Ok(text) => text_on_out(alloc, 0, Ok(text.into_bytes())),
-            Err(_) => no_memory(alloc),
-        },
+        Ok(end) => found_answer(alloc, bytes, end),
         Err(_) => no_memory(alloc),
     }
 }
@@ -166,7 +119,7 @@ fn probe_source(
 
 /// The answer of `probe`: the first of so many tuples of arguments on which the function or method of this name faults
 /// within so many ticks, with the kind and the place of the fault, and status 12; or that none of them faults. The source is
-/// read as for a listing of its code, and then the name.
+/// read as for a listing of its code, and then the name. Whether the conditions of the program are true isn't asked.
 pub fn probe_answer<F: Files>(
     alloc: Global,
     source: &str,
@@ -181,7 +134,7 @@ pub fn probe_answer<F: Files>(
     ensures miss_count { F.misses files.old ≤ F.misses files.new }
     ensures save_count { F.save_faults files.new ≡ F.save_faults files.old }
 {
-    match load(alloc, source, SOURCE_LIMIT, files) {
+    match load_alone(alloc, source, files) {
         Ok(bytes) => probe_source(alloc, source, bytes.as_slice(), name, tuples, ticks),
         Err(answer) => answer,
     }
