@@ -8,6 +8,7 @@ use Rattle.wy_top.specs.wy_top_answers.Steps.{Came, EndsOutside, Follows, goes_o
 use Rattle.wy_top.specs.wy_top_answers.Texts.{load_status, load_text, not_certified}
 use Rattle.wy_top.specs.wy_top_answers.declared.answer.Answer.{Answer}
 use Rattle.wy_top.specs.wy_cert.Steps.{Certificates}
+use Rattle.wy_core.specs.CoreTree.{Core}
 use Rattle.wy_port.specs.Taken.{with_taken}
 use Rattle.wy_port.specs.declared.files.LoadFault.{LoadFault}
 use Rattle.wy_port.specs.declared.files.LoadFault.TheVariants as load
@@ -17,14 +18,13 @@ use Rattle.wy_top.specs.wy_top_answers.supplied.Certificates.{certificates, from
 use Rattle.wy_top.specs.wy_top_answers.report.Lines.{save_failed, words_refused}
 use Rattle.wy_top_big.specs.Source.{argument_text, entry}
 use Rattle.wy_top.specs.wy_link_load.Alone.{loads_alone}
+use Rattle.wy_top.specs.wy_probe.Trials.{Finding, Faulted, Faultless}
 use Rattle.wy_top.proofs.wy_link_load_proofs.AnswerLemmas.{alone_covered}
 use Rattle.wy_top.specs.Acceptance.{Acceptance, accepts, accepts_file, accepts_source, are_closed, check_steps}
 use Rattle.wy_top.specs.Known.{Known}
 use Rattle.wy_top.specs.Large.{large_name, makes_one}
 use Rattle.wy_top.specs.Launching.{fault_status, run_steps, starts}
-use Rattle.wy_core.specs.CoreTree.{Core}
 use Rattle.wy_top.specs.Probing.{IsProbed, enters, found_answer, probe_steps, reads}
-use Rattle.wy_top.specs.wy_probe.Trials.{Finding, Faulted, Faultless}
 use Rattle.wy_top.specs.Programs.{Program, owes}
 use Rattle.wy_top.specs.Proofs.{IsJudged, proof_answer, proves_file}
 use Rattle.wy_top.specs.Saves.{Saves, Saving}
@@ -280,7 +280,7 @@ probed_apart : (bytes : List ℕ) (core : Core ℕ) (tuples ticks entry : ℕ) (
 probed_apart bytes core tuples ticks entry a h = found_apart bytes h.finding a (answer_is a _ h.answer)
 
 enters_apart : (core : Core ℕ) (name : List ℕ) (a : Answer) → enters core name stated (Err a) → Apart a
-enters_apart core name a h = faulted_apart _ _ start_status a h
+enters_apart core name a h = faulted_apart _ _ (λ f. no_7) a h
 
 reads_apart : (name bytes : List ℕ) (a : Answer) → reads name bytes stated (Err a) → Apart a
 reads_apart name bytes a h = faulted_apart _ _ (λ f. no_1) a h
@@ -291,7 +291,7 @@ probe_good s source name tuples ticks a h =
 
 probe_bad : (s : Setting) (source name : List ℕ) (tuples ticks : ℕ) (a : Answer) → probe_steps s source name tuples ticks stated (Err a) → Apart a
 probe_bad s source name tuples ticks a h =
-    of_steps Apart _ _ (λ b g. loaded_apart s source _ b g) (λ bytes b g. of_steps Apart _ _ (λ c f. reads_apart source bytes c f)
+    of_steps Apart _ _ (λ b g. alone_apart s source b g) (λ bytes b g. of_steps Apart _ _ (λ c f. reads_apart source bytes c f)
     (λ p c f. of_steps Apart _ _ (λ d e. enters_apart p.core name d e) (λ entry d e. absurd (no_answer d _ e.answer)) c f) b g) a h
 
 -- ---- the command `prove`

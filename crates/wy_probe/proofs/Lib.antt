@@ -17,4 +17,4 @@ mod TriedLemmas
 -- there is one finding
 pub mod OnceLemmas
 -- numbers of functions and methods
-mod RoutineLemmas
+pub mod RoutineLemmas

@@ -9,3 +9,5 @@ pub mod Tables
 pub mod Turns
 pub mod Comes
 pub mod Tallies
+-- passed on to the crates above
+pub use Rattle.wy_types.specs as wy_types

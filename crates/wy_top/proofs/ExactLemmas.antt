@@ -41,7 +41,7 @@ by_last s last other status k shown (inl e) = whole_or (answer_in other) status 
 by_last s (Ok a) other status k shown (inr free) = absurd free
 by_last s (Err a) other status k shown (inr free) = inr (free_shown s a status k free shown)
 
-answered : (s : Setting) (step : Sense → Came Answer → Type 0) (status : ℕ) (k : Sinks) → IsAnswered s step status k → AnswersExactly s step status k
+pub answered : (s : Setting) (step : Sense → Came Answer → Type 0) (status : ℕ) (k : Sinks) → IsAnswered s step status k → AnswersExactly s step status k
 answered s step status k h told other is_due =
     by_last s h.answers.last other status k (subst (λ (a : Answer). Shown a status k) h.answers.is h.shown) (h.answers.gives.only told other is_due)
 
