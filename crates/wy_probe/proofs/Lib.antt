@@ -14,7 +14,8 @@ mod CandidateLemmas
 mod TrialLemmas
 -- tuples tried one after another
 mod TriedLemmas
--- there is one finding
+-- there is a finding, and one
+mod SomeLemmas
 pub mod OnceLemmas
 -- numbers of functions and methods
 pub mod RoutineLemmas

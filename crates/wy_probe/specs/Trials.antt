@@ -106,7 +106,11 @@ abbrev pub Finds : Probe → List (List Datum) → Finding → Type 0
 Finds p all (Faulted number vs kind at) = FoundIn p all number vs kind at
 Finds p all (Faultless tried met undecided) = NoneIn p all tried met undecided
 
--- there is one finding
+-- there is a finding: so if one of the tuples faults, a first one does
+abbrev pub FindsSome : Type 0
+FindsSome = (p : Probe) (all : List (List Datum)) → (f : Finding) × Finds p all f
+
+-- there is only one
 abbrev pub FindsOnce : Type 0
 FindsOnce = (p : Probe) (all : List (List Datum)) (f g : Finding) → Finds p all f → Finds p all g → f ≡ g
 
