@@ -109,9 +109,17 @@ module _ (s : Setting) (source name : List ℕ) (tuples ticks : ℕ) where
     bytes = bytes;
     alone = alone;
     faults = record {
-      core = p.core; flow = p.flow; program = program;
-      entry = entry; routine = named.0; named = named.1;
-      number = number; values = vs; kind = kind; at = at; finds = finds;
+      core = p.core;
+      flow = p.flow;
+      program = program;
+      entry = entry;
+      routine = named.0;
+      named = named.1;
+      number = number;
+      values = vs;
+      kind = kind;
+      at = at;
+      finds = finds;
     };
     is = is;
   }

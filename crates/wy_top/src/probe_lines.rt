@@ -47,12 +47,7 @@ fn arguments_text(alloc: Global, args: &[Value]) -> Result<Vec<u8>, NoMemory>
 }
 
 /// The line where no tuple faults: how many were tried, are met, and are undecided.
-pub fn none_line(
-    alloc: Global,
-    tried: u32,
-    met: u32,
-    undecided: u32,
-) -> Result<String, AllocError>
+pub fn none_line(alloc: Global, tried: u32, met: u32, undecided: u32) -> Result<String, AllocError>
     ensures value { IfOk result (λ s. string_bytes s ≡ spec.none_line tried met undecided) }
 {
     format!(in alloc; "no fault: {tried} tried, {met} met, {undecided} undecided\n")
