@@ -1,5 +1,5 @@
 -- What does the command `probe` come to?
-use Rattle.std.specs.Prelude.{◌≡◌, ℕ, List, [], ◌∷◌, codes, false, Ok}
+use Rattle.std.specs.Prelude.{◌≡◌, ℕ, List, [], ◌∷◌, ◌++◌, codes, false, Ok}
 use Rattle.std.specs.Fmt.{decimal}
 use Rattle.wy_core.specs.CoreTree.{Core, Routine}
 use Rattle.wy_core.specs.Types.{Ty}
@@ -24,10 +24,13 @@ use Rattle.wy_top.specs.Texts.{is_faulted, source_faults}
 
 -- ---- what is written
 
+-- the front of the line of a fault, up to the arguments
+abbrev pub fault_head : List ℕ → ℕ → ℕ → List ℕ
+fault_head word row column = codes "fault " ++ (word ++ (codes " at " ++ (decimal row ++ (codes ":" ++ (decimal column ++ codes " on (")))))
+
 -- the fault, at its place in the source, and the arguments
 abbrev pub fault_line : List ℕ → List Datum → CondKind → ℕ → List ℕ
-fault_line bytes vs kind at =
-    line (codes "fault " ∷ word_of kind ∷ codes " at " ∷ decimal (place_of bytes at).0 ∷ codes ":" ∷ decimal (place_of bytes at).1 ∷ codes " on (" ∷ shown_items (data_of vs) ∷ codes ")" ∷ [])
+fault_line bytes vs kind at = fault_head (word_of kind) (place_of bytes at).0 (place_of bytes at).1 ++ (shown_items (data_of vs) ++ line (codes ")" ∷ []))
 
 abbrev pub none_line : ℕ → ℕ → ℕ → List ℕ
 none_line tried met undecided = line (codes "no fault: " ∷ decimal tried ∷ codes " tried, " ∷ decimal met ∷ codes " met, " ∷ decimal undecided ∷ codes " undecided" ∷ [])

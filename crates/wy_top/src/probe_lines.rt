@@ -21,13 +21,19 @@ pub fn fault_line(
     ensures value { IfOk result (λ text. text.items ≡ spec.fault_line bytes.now (map seen args.now) kind at) }
 {
     let place = locate(bytes, at);
-    let word = kind.word();
-    let head = format!(in alloc; "fault {word} at {}:{} on (", place.line, place.column)?;
+    let head = fault_head(alloc, kind.word(), place.line, place.column)?;
     let shown = arguments_text(alloc, args)?;
     let mut text = head.into_bytes();
     text.extend_from_slice(shown.as_slice())?;
     text.extend_from_slice(b")\n")?;
     Ok(text)
+}
+
+// The front of the line, up to the arguments.
+fn fault_head(alloc: Global, word: &str, row: usize, column: usize) -> Result<String, AllocError>
+    ensures value { IfOk result (λ s. string_bytes s ≡ spec.fault_head word.now row column) }
+{
+    format!(in alloc; "fault {word} at {row}:{column} on (")
 }
 
 // The texts of the arguments, with a comma and a space between them.
