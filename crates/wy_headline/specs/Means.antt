@@ -25,7 +25,7 @@ abbrev pub MeansIf : Option Asked → Setting → ℕ → Sinks → Type 0
 MeansIf (Some asked) s status k = MeansAsked asked s status k
 MeansIf None s status k = ⊤
 
--- a run that words ask for does what the program does, want of memory to read them aside; and whatever they ask for, status 13 comes of `prove` alone
+-- a run that words ask for does what the program does, and a probe tells what faults, want of memory to read them aside; and whatever they ask for, status 13 comes of `prove` alone
 pub record Means (words : List (List ℕ)) (s : Setting) (status : ℕ) (k : Sinks) : Type 0 where
   pub asked : MeansIf (command_of words) s status k ⊎ Shown no_memory status k
   pub never : IsNeverStuck (command_of words) status k
