@@ -71,9 +71,13 @@ pub record IsProbed (bytes : List ℕ) (core : Core ℕ) (tuples ticks entry : �
 abbrev pub probes : List ℕ → Core ℕ → ℕ → ℕ → ℕ → Sense → Came Answer → Type 0
 probes bytes core tuples ticks entry = both (IsProbed bytes core tuples ticks entry)
 
+-- the entry of a program that was read, and its tuples
+abbrev pub then_probes : List ℕ → ℕ → ℕ → List ℕ → Checked → Sense → Came Answer → Type 0
+then_probes name tuples ticks bytes p = and_then (enters p.core name) (probes bytes p.core tuples ticks)
+
 abbrev pub probes_source : List ℕ → List ℕ → ℕ → ℕ → List ℕ → Sense → Came Answer → Type 0
-probes_source source name tuples ticks bytes = and_then (reads source bytes) (λ p. and_then (enters p.core name) (λ entry. probes bytes p.core tuples ticks entry))
+probes_source source name tuples ticks bytes = and_then (reads source bytes) (then_probes name tuples ticks bytes)
 
 -- the order of a probe: the source, its text, names, types and assignment, the entry, the tuples
 abbrev pub probe_steps : Setting → List ℕ → List ℕ → ℕ → ℕ → Sense → Came Answer → Type 0
-probe_steps s source name tuples ticks = and_then (loads_alone s source) (λ bytes. probes_source source name tuples ticks bytes)
+probe_steps s source name tuples ticks = and_then (loads_alone s source) (probes_source source name tuples ticks)
