@@ -1,6 +1,6 @@
 -- What a probe tries are data that a program may hold.
 use Rattle.std.proofs.Common.{◌≡◌, ◌∙◌, ℕ, zero, suc, List, [], ◌∷◌, ◌++◌, map, take, length, get_or, Bool, true, false, cond, Option, Some, None, Less, nat_cmp, refl, sym, ap, subst}
-use Rattle.std.specs.Prelude.{slice_get}
+use Rattle.std.specs.Prelude.{is_some, slice_get}
 use Rattle.std.specs.Cmp.Lexicographic.{slice_cmp, nat_list_cmp_total}
 use Rattle.std.specs.List.{AllByRecursion}
 use Rattle.std.specs.List.Sorted.{IsStrictlySortedBy}
@@ -176,7 +176,7 @@ module _ (names : List Declared) (types : ℕ) (bound_names : (n : ℕ) (d : Dec
 named_bound : (o : Offers) (ds : List (Decl ℕ)) → BoundDecls o ds → (n : ℕ) (d : Declared) → slice_get (names_in ds) n ≡ Some d → BoundTy o.types d.ty
 named_bound o [] h n d e = absurd (no_some d e)
 named_bound o (RoutineDecl r ∷ ds) h n d e = named_bound o ds h.1 n d e
-named_bound o (AliasDecl a ∷ ds) h zero d e = subst (λ (x : Declared). BoundTy o.types x.ty) (some_is _ d e) h.0.ty
+named_bound o (AliasDecl a ∷ ds) h zero d e = let x : Declared = record { ty = a.ty; constrained = is_some a.variable } in subst (λ (y : Declared). BoundTy o.types y.ty) (some_is x d e) h.0.ty
 named_bound o (AliasDecl a ∷ ds) h (suc n) d e = named_bound o ds h.1 n d e
 
 routine_bound : (o : Offers) (ds : List (Decl ℕ)) → BoundDecls o ds → (n : ℕ) (r : Routine ℕ) → slice_get (routines_of ds) n ≡ Some r → BoundParams o (length r.variables) [] r.params

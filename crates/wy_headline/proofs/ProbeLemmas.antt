@@ -17,7 +17,7 @@ use Rattle.wy_top.specs.wy_top_answers.Steps.{Came, EndsOutside, Follows, IsOuts
 use Rattle.wy_top.specs.wy_top_answers.Texts.{load_status, load_text}
 use Rattle.wy_top.specs.wy_top_answers.declared.answer.Answer.{Answer}
 use Rattle.wy_top.specs.Exact.{IsElse}
-use Rattle.wy_top.specs.Probing.{IsProbed, checked, enters, found_answer, probe_steps, probes, probes_source, reads}
+use Rattle.wy_top.specs.Probing.{Checked, checked, enters, found_answer, probe_steps, probes, probes_source, reads}
 use Rattle.wy_top.specs.Statement.{IsAnswered}
 use Rattle.wy_top.proofs.ExactLemmas.{answered}
 use Rattle.wy_top.proofs.wy_link_load_proofs.AloneLemmas.{takes_nothing}
@@ -51,6 +51,27 @@ module _ (bytes name : List ℕ) (tuples ticks : ℕ) (f : Faults bytes name tup
 abbrev Other : Answer → Type 0
 Other a = a.status ≢ 12
 
+no_0 : ◌≢◌ {A = ℕ} 0 12
+no_0 e = omega (arith, e)
+
+no_1 : ◌≢◌ {A = ℕ} 1 12
+no_1 e = omega (arith, e)
+
+no_3 : ◌≢◌ {A = ℕ} 3 12
+no_3 e = omega (arith, e)
+
+no_4 : ◌≢◌ {A = ℕ} 4 12
+no_4 e = omega (arith, e)
+
+no_7 : ◌≢◌ {A = ℕ} 7 12
+no_7 e = omega (arith, e)
+
+no_9 : ◌≢◌ {A = ℕ} 9 12
+no_9 e = omega (arith, e)
+
+no_10 : ◌≢◌ {A = ℕ} 10 12
+no_10 e = omega (arith, e)
+
 status_of : Answer → ℕ
 status_of a = a.status
 
@@ -59,20 +80,20 @@ unfolding status_of
 other_as n a b is of apart e = apart (sym of ∙ (sym (ap status_of is) ∙ e))
 
 outside_other : (s : Setting) (a : Answer) → IsOutside s a → Other a
-outside_other s a (memory is) = other_as 9 a _ is refl (λ e. omega (arith, e))
-outside_other s a (failed file is rose) = other_as 4 a _ is refl (λ e. omega (arith, e))
+outside_other s a (memory is) = other_as 9 a _ is refl no_9
+outside_other s a (failed file is rose) = other_as 4 a _ is refl no_4
 
 faulted_other : {F : Type 0} (faults : OfFaults F) (there : F → Type 0) → ((f : F) → faults.status f ≢ 12) → (a : Answer) → IsFaulted faults there a → Other a
 faulted_other faults there apart a h = other_as (faults.status h.fault) a _ h.answer refl (apart h.fault)
 
 alone_other : (s : Setting) (name : List ℕ) (a : Answer) → loads_alone s name stated (Err a) → Other a
-alone_other s name a h = alone_covered Other (record { not_loaded = by; refuses = λ lines e. omega (arith, e) }) s name a h
+alone_other s name a h = alone_covered Other (record { not_loaded = by; refuses = λ lines. no_1 }) s name a h
   where
     by : (f : LoadFault) (file : List ℕ) → Other (refused (load_status f) (load_text file f))
-    by load.Absent file e = omega (arith, e)
-    by load.TooLong file e = omega (arith, e)
-    by load.Failed file e = omega (arith, e)
-    by load.NoMemory file e = omega (arith, e)
+    by load.Absent file = no_3
+    by load.TooLong file = no_10
+    by load.Failed file = no_4
+    by load.NoMemory file = no_9
 
 one_answer : {Y : Type 0} (a b : Answer) → (let r : Came Y = Err a in r ≡ Err b) → a ≡ b
 one_answer a b e = cc
@@ -93,8 +114,8 @@ answer_is a b e = cc
 module _ (s : Setting) (source name : List ℕ) (tuples ticks : ℕ) where
   refused_other : (a : Answer) → probe_steps s source name tuples ticks stated (Err a) → Other a
   refused_other a h =
-      of_steps _ _ (λ b g. alone_other s source b g) (λ bytes b g. of_steps _ _ (λ c i. faulted_other _ _ (λ f e. omega (arith, e)) c i)
-      (λ p c i. of_steps _ _ (λ d j. faulted_other _ _ (λ f e. omega (arith, e)) d j) (λ entry d j. absurd (no_answer d _ j.answer)) c i) b g) a h
+      of_steps _ _ (λ b g. alone_other s source b g) (λ bytes b g. of_steps _ _ (λ c i. faulted_other _ _ (λ f. no_1) c i)
+      (λ p c i. of_steps _ _ (λ d j. faulted_other _ _ (λ f. no_7) d j) (λ entry d j. absurd (no_answer d _ j.answer)) c i) b g) a h
 
   -- the source faults so, and this is the answer
   record Came12 (a : Answer) : Type 0 where
@@ -103,7 +124,7 @@ module _ (s : Setting) (source name : List ℕ) (tuples ticks : ℕ) where
     faults : Faults bytes name tuples ticks
     is : a ≡ answer_of bytes name tuples ticks faults
 
-  by_finding : (bytes : List ℕ) (a : Answer) (alone : loads_alone s source stated (Ok bytes)) (p : _) → reads source bytes stated (Ok p) → (entry : ℕ) → enters p.core name stated (Ok entry)
+  by_finding : (bytes : List ℕ) (a : Answer) (alone : loads_alone s source stated (Ok bytes)) (p : Checked) → reads source bytes stated (Ok p) → (entry : ℕ) → enters p.core name stated (Ok entry)
       → (g : Finding) → FindsFirst (probe_of p.core entry ticks) tuples g → a ≡ found_answer bytes g → a.status ≡ 12 → Came12 a
   by_finding bytes a alone p program entry named (Faulted number vs kind at) finds is twelve = record {
     bytes = bytes;
@@ -123,7 +144,7 @@ module _ (s : Setting) (source name : List ℕ) (tuples ticks : ℕ) where
     };
     is = is;
   }
-  by_finding bytes a alone p program entry named (Faultless tried met undecided) finds is twelve = absurd (other_as 0 a _ is refl (λ e. omega (arith, e)) twelve)
+  by_finding bytes a alone p program entry named (Faultless tried met undecided) finds is twelve = absurd (other_as 0 a _ is refl no_0 twelve)
 
   answered_12 : (a : Answer) → probe_steps s source name tuples ticks stated (Ok a) → a.status ≡ 12 → Came12 a
   answered_12 a h twelve =
