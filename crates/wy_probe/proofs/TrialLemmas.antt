@@ -1,5 +1,5 @@
 -- What the ends of a test and of a run say of one tuple.
-use Rattle.std.proofs.Common.{◌≡◌, ◌≢◌, ◌⊎◌, inl, inr, ◌≤◌, ◌<◌, ℕ, List, Option, refl, sym, ◌∙◌, arith}
+use Rattle.std.proofs.Common.{◌≡◌, ◌≢◌, ◌⊎◌, inl, inr, ◌≤◌, ◌<◌, ℕ, List, Bool, true, false, Option, None, refl, arith}
 use Rattle.wy_term.specs.declared.cond.CondKind.{CondKind}
 use Rattle.wy_value.specs.Datum.{Datum}
 use Rattle.wy_sem.specs.Meter.{Meter, Outcome, Done, Fault, More, Spent}
@@ -15,6 +15,13 @@ use Rattle.wy_eval.specs.declared.ending.EvalEnd.TheVariants as eval
 use Rattle.wy_probe.specs.Comes.{ComesTo}
 use Rattle.wy_probe.specs.Trials.{DoesFault, IsMet, IsUndecided, NeverFaults, Probe, turns}
 use Rattle.wy_probe.specs.declared.trials.Trial.TheVariants as trial
+
+-- it is done, or goes on
+abbrev pub is_well : EvalEnd → Bool
+is_well (eval.Done v out) = true
+is_well (eval.Fault kind at out) = false
+is_well (eval.More out) = true
+is_well eval.TurnsSpent = false
 
 module _ (p : Probe) (vs : List Datum) where
   abbrev Test : MeetsEnd → Type 0
@@ -67,8 +74,8 @@ module _ (p : Probe) (vs : List Datum) where
   no_more : (o : Outcome (Option Datum)) (m k : Meter) (kind : CondKind) (at : ℕ) → o ≡ More m → o ≡ Fault kind at k → ⊥
   no_more o m k kind at e f = cc
 
-  pub goes_well : (e : EvalEnd) → Run e → IsMet p vs → ((kind : CondKind) (at : ℕ) (out : _) → e ≢ eval.Fault kind at out) → e ≢ eval.TurnsSpent → ComesTo p vs (trial.Passes true false)
-  goes_well (eval.Done v out) h met apart left = ((λ kind at f. no_done _ _ _ _ kind at h.1.1 f.faults), met, decided met h.0)
-  goes_well (eval.Fault kind at out) h met apart left = absurd (apart kind at out refl)
-  goes_well (eval.More out) h met apart left = ((λ kind at f. no_more _ _ _ kind at h.1.1 f.faults), met, decided met h.0)
-  goes_well eval.TurnsSpent h met apart left = absurd (left refl)
+  pub goes_well : (e : EvalEnd) → is_well e ≡ true → Run e → IsMet p vs → ComesTo p vs (trial.Passes true false)
+  goes_well (eval.Done v out) well h met = ((λ kind at f. no_done _ _ _ _ kind at h.1.1 f.faults), met, decided met h.0)
+  goes_well (eval.Fault kind at out) well h met = absurd cc
+  goes_well (eval.More out) well h met = ((λ kind at f. no_more _ _ _ kind at h.1.1 f.faults), met, decided met h.0)
+  goes_well eval.TurnsSpent well h met = absurd cc
