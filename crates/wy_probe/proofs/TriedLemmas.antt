@@ -18,7 +18,7 @@ none_behind p (ws ∷ before) vs none never = (none.0, none_behind p before vs n
 
 one_counted : (P : List Datum → Type 0) (vs : List Datum) (b : Bool) → Tells b (P vs) → Counted P (vs ∷ []) (with_one b 0)
 one_counted P vs true is = one_more is no_more
-one_counted P vs false no = not_one no no_more
+one_counted P vs false never = not_one never no_more
 
 more_counted : (b : Bool) (n : ℕ) → with_one b (suc n) ≡ suc (with_one b n)
 more_counted true n = refl
@@ -27,7 +27,7 @@ more_counted false n = refl
 counted_behind : (P : List Datum → Type 0) (before : List (List Datum)) (n : ℕ) (vs : List Datum) (b : Bool) → Counted P before n → Tells b (P vs) → Counted P (before ++ vs ∷ []) (with_one b n)
 counted_behind P [] _ vs b no_more is = one_counted P vs b is
 counted_behind P (ws ∷ before) (suc n) vs b (one_more at rest) is = subst (Counted P (ws ∷ (before ++ vs ∷ []))) (sym (more_counted b n)) (one_more at (counted_behind P before n vs b rest is))
-counted_behind P (ws ∷ before) n vs b (not_one no rest) is = not_one no (counted_behind P before n vs b rest is)
+counted_behind P (ws ∷ before) n vs b (not_one never rest) is = not_one never (counted_behind P before n vs b rest is)
 
 length_behind : (before : List (List Datum)) (vs : List Datum) → length (before ++ vs ∷ []) ≡ suc (length before)
 length_behind [] vs = refl
@@ -36,7 +36,7 @@ length_behind (ws ∷ before) vs = ap (λ n. suc n) (length_behind before vs)
 counted_most : (P : List Datum → Type 0) (all : List (List Datum)) (n : ℕ) → Counted P all n → n ≤ length all
 counted_most P [] _ no_more = omega arith
 counted_most P (vs ∷ rest) (suc n) (one_more is counted) = let le = counted_most P rest n counted in omega (arith, le)
-counted_most P (vs ∷ rest) n (not_one no counted) = let le = counted_most P rest n counted in omega (arith, le)
+counted_most P (vs ∷ rest) n (not_one never counted) = let le = counted_most P rest n counted in omega (arith, le)
 
 -- ---- those that were tried
 
