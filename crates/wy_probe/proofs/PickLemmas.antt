@@ -3,7 +3,7 @@ use Rattle.std.proofs.Common.{◌≡◌, ◌<◌, ◌+◌, ℕ, zero, suc, List,
 use Rattle.std.specs.Prelude.{slice_index_or}
 use Rattle.std.proofs.lemmas.List.{length-map}
 use Rattle.wy_lemmas.proofs.Lists.{append_mid, next_of}
-use Rattle.wy_value.specs.Datum.{Datum, Null}
+use Rattle.wy_value.specs.Datum.{Null}
 use Rattle.wy_value.specs.Seen.{seen}
 use Rattle.wy_value.specs.declared.value.Value.{Value}
 use Rattle.wy_probe.specs.Tables.{data_in, table_of}

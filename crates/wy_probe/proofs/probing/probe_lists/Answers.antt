@@ -1,17 +1,15 @@
-use Rattle.std.proofs.Common.{◌≡◌, ◌∙◌, ◌+◌, ◌-◌, ℕ, suc, List, Option, Some, length, map, refl, sym, ap, subst, arith}
+use Rattle.std.proofs.Common.{◌≡◌, ◌∙◌, ◌+◌, ◌-◌, ℕ, suc, List, Some, length, map, refl, sym, ap, subst, arith}
 use Rattle.std.specs.Prelude.{IfSome, option_map}
 use Rattle.wy_core.specs.CoreSeen.{seen_core}
-use Rattle.wy_value.specs.Datum.{Datum}
 use Rattle.wy_value.specs.Seen.{seen}
 use Rattle.wy_value.specs.declared.value.Value.{Value}
 use Rattle.wy_probe.specs.Comes.{ComesTo, probe_of}
 use Rattle.wy_probe.specs.Tables.{table_of}
-use Rattle.wy_probe.specs.Tallies.{with_one}
 use Rattle.wy_probe.specs.Trials.{FoundIn, first_of, picked}
 use Rattle.wy_probe.specs.Tuples.{Fit, first_one, next_tuple}
 use Rattle.wy_probe.specs.declared.trials.Trial.{Trial}
 use Rattle.wy_probe.specs.declared.trials.Trial.TheVariants as trial
-use Rattle.wy_probe.proofs.TriedLemmas.{Stands, moved, stands_first, stands_found, stands_met, stands_next, stands_undecided}
+use Rattle.wy_probe.proofs.TriedLemmas.{moved, stands_first, stands_found, stands_met, stands_next, stands_undecided}
 use Rattle.wy_probe.proofs.probing.probe_lists.Goals as goal
 
 pub loop-number-init : goal.loop-number-init
