@@ -1,8 +1,8 @@
 use Rattle.std.proofs.Common.{◌≡◌, ◌∙◌, codes, ap}
 use Rattle.std.proofs.lemmas.Result.{IfOk-weaker}
-use Rattle.clap.specs.Simple.{App, app_of}
+use Rattle.clap.specs.Simple.{App}
 use Rattle.wy_top_words.specs.CommandLine.{Text}
-use Rattle.wy_top_words.specs.Line.{bare_app, with_leaf}
+use Rattle.wy_top_words.specs.Line.{with_leaf}
 use Rattle.wy_top_words.proofs.declared.command_line.Goals as goal
 
 -- one command more
