@@ -13,14 +13,14 @@ pub returns-in-Ok : goal.returns-in-Ok
 returns-in-Ok c =
     let core = core_of c.args.typed.now in
     let same : map seen_decl c.as_slice.result.now ≡ core = ap (λ l. map seen_decl l) c.as_slice.ensures ∙ c.core-core.ensures.value in
-    let has = subst (λ (l : Core ℕ). HasEntry (routines_of l) c.args.name.now c.in-Ok.entry) same c.in-Ok.ensures in
+    let has = subst (λ (l : Core ℕ). HasEntry (routines_of l) c.args.name.now c.in-Ok.entry) same c.in-Ok.ensures.found in
     record { gives = λ s. entry_value s core c.args.name.now c.in-Ok.entry.number has.routine has.is; routine = (has.routine, has.is.there) }
 
 pub returns-in-Err-NoEntry : goal.returns-in-Err-NoEntry
 returns-in-Err-NoEntry c =
     let core = core_of c.args.typed.now in
     let same : map seen_decl c.as_slice.result.now ≡ core = ap (λ l. map seen_decl l) c.as_slice.ensures ∙ c.core-core.ensures.value in
-    let lacks = rw c.in-Err-NoEntry.field-0-is at c.in-Err-NoEntry.ensures in
+    let lacks = rw c.in-Err-NoEntry.field-0-is at c.in-Err-NoEntry.ensures.found in
     let none = subst (λ (l : Core ℕ). HasNone (routines_of l) c.args.name.now) same lacks in
     record { gives = λ s. entry_fault s core c.args.name.now c.refusal.result none (c.refusal.ensures.value (no_entry c.args.name.now) c.no_entry.ensures.value); routine = tt }
 

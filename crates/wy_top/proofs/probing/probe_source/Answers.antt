@@ -13,8 +13,8 @@ returns-in-Ok-entry_in c = record {
       (then_answers s (enters core name) (probes bytes core c.args.tuples c.args.ticks) c.in-Ok-entry_in.entry c.probed.result (c.in-Ok-entry_in.ensures.gives s) (c.probed.ensures.answers s));
 }
 
-pub returns-in-Err-entry_in : goal.returns-in-Err-entry_in
-returns-in-Err-entry_in c = record {
+pub returns : goal.returns
+returns c = record {
   answers = λ s.
       let bytes = c.args.bytes.now in
       let name = c.args.name.now in
