@@ -4,8 +4,8 @@ pub mod OwedLemmas
 pub mod ConditionLemmas
 -- the text of what it owes
 pub mod ListLemmas
--- verdicts, one by one
-pub mod JudgedLemmas
+-- conditions over terms that are as before
+pub mod StayLemmas
 -- counts
 pub mod CountLemmas
 -- the laws
@@ -37,6 +37,7 @@ pub mod LargeLemmas
 pub mod SaveLemmas
 pub mod ExactLemmas
 -- passed on to the crates above
+pub use Rattle.wy_batch.proofs as wy_batch_proofs
 pub use Rattle.wy_gen_sources.proofs as wy_gen_sources_proofs
 pub use Rattle.wy_link_load.proofs as wy_link_load_proofs
 pub use Rattle.wy_mach_run.proofs as wy_mach_run_proofs

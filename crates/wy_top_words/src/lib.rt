@@ -10,6 +10,6 @@ mod law;
 mod number;
 mod read;
 
-pub use command::Words;
-pub use law::lines_mean;
+pub use command::{Ordered, Words};
+pub use law::{lines_mean, workers_change_nothing};
 pub use read::{WordsFault, read_words};

@@ -3,8 +3,8 @@ use Rattle.wy_cert.specs.Steps.{certificates_of}
 use Rattle.wy_top_answers.specs.wy_vc_laws.shown.Certified.{AreFormed}
 use Rattle.wy_term.specs.Condition.{Condition, condition_of}
 use Rattle.wy_term.specs.declared.cond.Cond.{Cond}
-use Rattle.wy_top.specs.Known.{AreKnown}
-use Rattle.wy_top.specs.Seen.{known}
+use Rattle.wy_batch.specs.Known.{AreKnown}
+use Rattle.wy_batch.specs.Seen.{known}
 use Rattle.wy_top_answers.proofs.wy_vc_laws_proofs.folded_lemmas.OwedLemmas.{conditions_folded}
 use Rattle.wy_top_answers.specs.wy_vc_laws.folded.FoldedConditions.{AreFoldedThroughout}
 use Rattle.wy_top.specs.Kept.{program_in}
@@ -16,15 +16,13 @@ use Rattle.wy_top.proofs.judging.judge_all.Goals as goal
 pub returns-in-Ok-clause-verdicts : goal.returns-in-Ok-clause-verdicts
 returns-in-Ok-clause-verdicts c =
     let kept = c.requires.kept in
-    let of = condition_of c.args.owed.conds.terms in
-    let all = ap (λ (l : List Cond). map of l) c.deref.ensures.value ∙ kept.conditions in
     record {
       program = refl;
-      known = subst (λ (cs : List Condition). AreKnown (certificates_of c.args.certs.now) c.args.budget 1 cs (map known c.in-Ok.verdicts.items)) all c.in-Ok.ensures.known;
+      known = subst (λ (cs : List Condition). AreKnown (certificates_of c.args.certs.now) c.args.budget 1 cs (map known c.in-Ok.verdicts.items)) kept.conditions c.in-Ok.ensures.known;
       formed = subst AreFormed kept.conditions kept.formed;
       count = same_count c.args.owed.conds.terms c.args.owed.conds.list.items _ kept.conditions;
       told = record { nodes = c.args.owed.conds.terms; told = kept.told };
-      conditions = same_conditions c.args.owed.conds.terms c.judge.new.terms c.args.owed.conds.list.items c.in-Ok.ensures.length c.in-Ok.ensures.kept kept.numbers ∙ kept.conditions;
+      conditions = kept.conditions;
     }
 
 pub returns-in-Ok-clause-each : goal.returns-in-Ok-clause-each
