@@ -12,9 +12,6 @@ only_asked : (a : Option Asked) (w : Option ℕ) (n : ℕ) → w ≡ Some n → 
 only_asked None w n is = refl
 only_asked (Some x) w n is = ap (λ (v : Option ℕ). only (option_map (with_workers x) v)) is
 
-abbrev under : Option Asked → Option ℕ → Option Asked
-under a w = only (option_and_then (λ x. option_map (with_workers x) w) a)
-
 pub never_by_workers : NeverByWorkers
 never_by_workers kind.Check g t u n m a b = only_asked (asked kind.Check g) _ n a ∙ sym (only_asked (asked kind.Check g) _ m b)
 never_by_workers kind.Run g t u n m a b = only_asked (asked kind.Run g) _ n a ∙ sym (only_asked (asked kind.Run g) _ m b)
@@ -23,3 +20,4 @@ never_by_workers kind.Conds g t u n m a b = refl
 never_by_workers kind.Fmt g t u n m a b = refl
 never_by_workers kind.Dis g t u n m a b = refl
 never_by_workers kind.Big g t u n m a b = only_asked (asked kind.Big g) _ n a ∙ sym (only_asked (asked kind.Big g) _ m b)
+never_by_workers kind.Probe g t u n m a b = refl

@@ -4,6 +4,7 @@ ghost use Rattle.wy_top_words.specs.CommandLine.{asked, big_asked, check_asked, 
 ghost use Rattle.wy_top_words.specs.Plain.{asked_in, given_in, order_in, text_in, texts_in};
 
 use crate::number::{budget_of, number_within, steps_of, workers_of};
+use crate::probing::probe;
 
 /// A command, with the texts of its operands and the numbers of its options.
 #[derive(Clone, Copy, Debug, PartialEq, Eq)]
@@ -50,6 +51,13 @@ pub enum Words<'a> {
         budget: u64,
         steps: u64,
     },
+    /// A probe for faults of the function or method `name`, over so many tuples of arguments, each with so many ticks.
+    Probe {
+        source: &'a str,
+        name: &'a str,
+        tuples: u64,
+        ticks: u64,
+    },
 }
 
 /// A command, and how many workers judge the conditions of its program: from 1 to 64, which changes nothing of what it comes to. It is 1
@@ -70,6 +78,7 @@ pub enum Kind {
     Fmt,
     Dis,
     Big,
+    Probe,
 }
 
 /// The command with this name.
@@ -98,6 +107,8 @@ fn other_kind(name: &str) -> Option<Kind>
         Some(Kind::Dis)
     } else if name == "big" {
         Some(Kind::Big)
+    } else if name == "probe" {
+        Some(Kind::Probe)
     } else {
         None
     }
@@ -130,7 +141,7 @@ fn workers(kind: Kind, text: Option<&str>) -> Option<u64>
 {
     match kind {
         Kind::Check | Kind::Run | Kind::Prove | Kind::Big => workers_of(text),
-        Kind::Conds | Kind::Fmt | Kind::Dis => match text {
+        Kind::Conds | Kind::Fmt | Kind::Dis | Kind::Probe => match text {
             None => Some(1),
             Some(_) => None,
         },
@@ -158,6 +169,7 @@ fn meaning<'a, 'b>(kind: Kind, given: Given<'a, 'b>) -> Option<Words<'a>>
             None => None,
         },
         Kind::Big => big(given),
+        Kind::Probe => probe(given),
     }
 }
 
@@ -255,7 +267,7 @@ fn two<'a>(operands: &[&'a str]) -> Option<(&'a str, &'a str)>
     Some((*first, *second))
 }
 
-fn four<'a>(operands: &[&'a str]) -> Option<(&'a str, &'a str, &'a str, &'a str)>
+pub fn four<'a>(operands: &[&'a str]) -> Option<(&'a str, &'a str, &'a str, &'a str)>
     ensures value { option_map (λ p. (p.0.now, p.1.now, p.2.now, p.3.now)) result ≡ four_of (texts_in operands.now) }
 {
     let [first, second, third, fourth] = operands else {

@@ -27,6 +27,10 @@ returns c = record {
   many = refl;
   few = refl;
   digits = refl;
+  probed = refl;
+  untried = refl;
+  long = refl;
+  inquiring = refl;
   nothing = refl;
   other = refl;
 }
