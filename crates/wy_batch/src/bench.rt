@@ -1,5 +1,5 @@
 //! What a worker keeps from one condition to the next.
-ghost use Rattle.std.specs.Prelude.{nat_eq, ◌≡◌, ◌<◌, ℕ, List, All, length, map, IfOk, OnOk};
+ghost use Rattle.std.specs.Prelude.{nat_eq, ◌≡◌, ◌==◌, ◌<◌, if◌then◌else◌, ℕ, List, All, Some, length, map, IfOk, OnOk};
 ghost use Rattle.std.specs.HashMap.{get};
 ghost use Rattle.wy_batch.specs.Bench.{IsBench};
 ghost use Rattle.wy_check.specs.Within.{IsWithin};
@@ -34,6 +34,21 @@ pub fn bare_bench(alloc: Global) -> Bench
     }
 }
 
+// The number of a copy, if one is noted.
+fn noted(images: &HashMap<u32, u32>, t: u32) -> Option<u32>
+    ensures { result ≡ get nat_eq images.now t }
+{
+    images.get(&t).copied()
+}
+
+// Notes the number of a copy.
+fn note(images: &mut HashMap<u32, u32>, t: u32, image: u32) -> Result<(), NoMemory>
+    ensures { OnOk result ((q : ℕ) → get nat_eq images.new q ≡ (if t == q then Some image else get nat_eq images.old q)) }
+{
+    images.insert(t, image)?;
+    Ok(())
+}
+
 // The number of a term of the conditions' arena on the bench. It is copied where it wasn't yet.
 fn image(bench: &mut Bench, from: &Terms, t: u32) -> Result<u32, NoMemory>
     requires bench { IsBench from.now bench.old }
@@ -43,12 +58,14 @@ fn image(bench: &mut Bench, from: &Terms, t: u32) -> Result<u32, NoMemory>
     ensures bench { OnOk result (IsBench from.now bench.new) }
     ensures stays { OnOk result (Stays bench.old.terms bench.new.terms) }
 {
-    if let Some(image) = bench.images.get(&t) {
-        return Ok(*image);
+    match noted(&bench.images, t) {
+        Some(image) => Ok(image),
+        None => {
+            let image = bench.terms.copy(from, t)?;
+            note(&mut bench.images, t, image)?;
+            Ok(image)
+        }
     }
-    let image = bench.terms.copy(from, t)?;
-    bench.images.insert(t, image)?;
-    Ok(image)
 }
 
 // The numbers of these formulas on the bench.

@@ -1,5 +1,5 @@
 //! Where the certificate for a condition stands.
-ghost use Rattle.std.specs.Prelude.{nat_eq, IfOk};
+ghost use Rattle.std.specs.Prelude.{nat_eq, ◌≡◌, IfOk};
 ghost use Rattle.std.specs.HashMap.{get};
 ghost use Rattle.wy_batch.specs.Index.{IsIndex};
 
@@ -14,11 +14,18 @@ pub fn index_of(alloc: Global, certs: &Certs) -> Result<HashMap<u32, usize>, NoM
     ensures { IfOk result (λ places. IsIndex certs.now.list.items (get nat_eq places)) }
 {
     let mut places = HashMap::new(alloc);
-    let count = certs.list.len();
-    for done in 0..count {
-        let place = count - 1 - done;
-        let (number, _) = &certs.list[place];
-        places.insert(*number, place)?;
+    let mut place = certs.list.len();
+    'back: while place > 0 {
+        place -= 1;
+        let number = certs.list[place].0;
+        places.insert(number, place)?;
     }
     Ok(places)
+}
+
+/// The place of the first certificate for the condition with this number, if it has one.
+pub fn place_of(places: &HashMap<u32, usize>, number: u32) -> Option<usize>
+    ensures { result ≡ get nat_eq places.now number }
+{
+    places.get(&number).copied()
 }

@@ -12,6 +12,7 @@ ghost use Rattle.wy_term.specs.Condition.{condition_of};
 ghost use Rattle.wy_term.specs.Nodes.{Plain, tree_at};
 
 use crate::bench::{Bench, brought};
+use crate::index::place_of;
 use crate::verdict::{End, Verdict};
 use std::collections::HashMap;
 use wy_cert::{Cert, Certs};
@@ -39,13 +40,38 @@ pub fn judged(
     ensures bench { OnOk result (IsBench conds.now.terms bench.new) }
 {
     let cond = brought(bench, &conds.terms, &conds.list[place as usize])?;
-    let given = given_for(bench, places, certs, &cond, place + 1)?;
-    judged_one(&mut bench.terms, &mut bench.carried, &cond, given, budget)
+    judged_there(bench, places, certs, &cond, place + 1, budget)
 }
 
-// The verdict on what was supplied for the condition with this number, from 1, which stands on the bench.
-fn given_for(
+// What is known of the condition with this number, from 1, which stands on the bench.
+fn judged_there(
     bench: &mut Bench,
+    places: &HashMap<u32, usize>,
+    certs: &Certs,
+    cond: &Cond,
+    number: u32,
+    budget: u64,
+) -> Result<Verdict, NoMemory>
+    requires carried { IsCarried bench.old.terms bench.old.carried }
+    requires places { IsIndex certs.now.list.items (get nat_eq places.now) }
+    requires certs { NameTheirTerms certs.now }
+    requires cond { IsWithin (length bench.old.terms) cond.now }
+    ensures value { IfOk result (IsJudged (certificates_of certs.now) budget number (condition_of bench.old.terms cond.now)) }
+    ensures bench { (from : List Plain) → IsBench from bench.old → OnOk result (IsBench from bench.new) }
+{
+    let given = given_for(&mut bench.terms, places, certs, cond, number)?;
+    judged_one(
+        &mut bench.terms,
+        &mut bench.carried,
+        cond,
+        given,
+        budget,
+    )
+}
+
+// The verdict on what was supplied for the condition with this number, from 1.
+fn given_for(
+    terms: &mut Terms,
     places: &HashMap<u32, usize>,
     certs: &Certs,
     cond: &Cond,
@@ -53,15 +79,14 @@ fn given_for(
 ) -> Result<Given, NoMemory>
     requires places { IsIndex certs.now.list.items (get nat_eq places.now) }
     requires certs { NameTheirTerms certs.now }
-    requires cond { IsWithin (length bench.old.terms) cond.now }
-    ensures value { IfOk result (λ g. g ≡ verdict_on (condition_of bench.old.terms cond.now) (certificate_for (certificates_of certs.now) number)) }
-    ensures bench { (from : List Plain) → IsBench from bench.old → OnOk result (IsBench from bench.new) }
-    ensures length { length bench.new.terms ≡ length bench.old.terms }
-    ensures kept { (t : ℕ) → t < length bench.old.terms → tree_at bench.new.terms t ≡ tree_at bench.old.terms t }
+    requires cond { IsWithin (length terms.old) cond.now }
+    ensures value { IfOk result (λ g. g ≡ verdict_on (condition_of terms.old cond.now) (certificate_for (certificates_of certs.now) number)) }
+    ensures length { length terms.new ≡ length terms.old }
+    ensures kept { (t : ℕ) → t < length terms.old → tree_at terms.new t ≡ tree_at terms.old t }
 {
-    match places.get(&number) {
+    match place_of(places, number) {
         None => Ok(Given::Missing),
-        Some(place) => given_by(&mut bench.terms, cond, &certs.list[*place].1),
+        Some(place) => given_by(terms, cond, &certs.list[place].1),
     }
 }
 
@@ -79,8 +104,8 @@ fn given_by(terms: &mut Terms, cond: &Cond, cert: &Cert) -> Result<Given, NoMemo
     }
 }
 
-// What is known of a condition, where the verdict on what was supplied for it is this.
-fn judged_one(
+/// What is known of a condition, where the verdict on what was supplied for it is this.
+pub fn judged_one(
     terms: &mut Terms,
     carried: &mut Carried,
     cond: &Cond,

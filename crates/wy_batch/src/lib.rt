@@ -8,8 +8,12 @@
 //! splits the counter's seat, has a worker in a thread of its own for each, and puts the verdicts in the order of the conditions
 //! (`ordering`). Workers share the counter and what they only read; none waits for another, and the results are moved to whoever joined
 //! them. A `Gate` is told of each condition before its verdict. The verdicts are the same for every number of workers.
+//!
+//! `alone` gives the same verdicts by one worker who needs no bench, on the conditions' own terms, and `staffing` takes the one way or the
+//! other by the number of workers.
 #![tactic(auto)]
 
+mod alone;
 mod bench;
 mod discharging;
 mod gate;
@@ -17,12 +21,14 @@ mod index;
 mod judging;
 mod law;
 mod ordering;
+mod staffing;
 mod verdict;
 mod working;
 
 pub use discharging::discharge;
 pub use gate::{Gate, OpenGate};
 pub use law::one_list;
+pub use staffing::judge;
 pub use verdict::{End, Verdict};
 pub use working::work;
 pub use wy_claim::{Claims, MAX_PIECES, MAX_SEATS, Seat};

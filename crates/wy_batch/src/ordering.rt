@@ -28,7 +28,7 @@ pub fn in_order(
 fn placed(
     alloc: Global,
     count: usize,
-    mut verdicts: Vec<(u32, Verdict)>,
+    verdicts: Vec<(u32, Verdict)>,
 ) -> Result<Vec<Option<Verdict>>, NoMemory>
     requires once { EachOnce count (numbers_of verdicts.items) }
     ensures count { IfOk result (λ slots. length slots.items ≡ count) }
@@ -36,7 +36,7 @@ fn placed(
     ensures placed { (certs : Certificates) → (budget : ℕ) → (cs : List Condition) → AreVerdictsAt certs budget cs verdicts.items → IfOk result (λ slots. ArePlaced certs budget cs slots.items) }
 {
     let mut slots = no_verdicts(alloc, count)?;
-    while let Some((place, verdict)) = verdicts.pop() {
+    for (place, verdict) in verdicts {
         slots[place as usize] = Some(verdict);
     }
     Ok(slots)

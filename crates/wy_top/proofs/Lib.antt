@@ -4,8 +4,6 @@ pub mod OwedLemmas
 pub mod ConditionLemmas
 -- the text of what it owes
 pub mod ListLemmas
--- conditions over terms that are as before
-pub mod StayLemmas
 -- counts
 pub mod CountLemmas
 -- the laws

@@ -7,7 +7,7 @@ ghost use Rattle.wy_cert.specs.Steps.{NameTheirTerms, certificates_of};
 use crate::owing::Owed;
 use std::alloc::Global;
 use std::thread::Threads;
-use wy_batch::{OpenGate, Verdict, discharge};
+use wy_batch::{Verdict, judge};
 use wy_cert::Certs;
 use wy_flow_spec::typing::Typed;
 use wy_term::Conds;
@@ -38,8 +38,8 @@ pub fn judge_all<R: Threads + Sync>(
     ensures each { IfOk result AreEach }
     ensures memory { IfErr result (λ a. a ≡ answers.no_memory) }
 {
-    let Owed { typed, conds } = owed;
-    match discharge(rt, alloc, &conds, certs, budget, workers, &OpenGate) {
+    let Owed { typed, mut conds } = owed;
+    match judge(rt, alloc, &mut conds, certs, budget, workers) {
         Ok(verdicts) => Ok(Judged {
             typed,
             conds,

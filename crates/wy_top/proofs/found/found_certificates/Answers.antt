@@ -7,7 +7,7 @@ use Rattle.wy_batch.specs.Known.{is_found}
 use Rattle.wy_batch.specs.Seen.{seen_end}
 use Rattle.wy_batch.specs.declared.verdict.Verdict.{Verdict}
 use Rattle.wy_top.proofs.FoundLemmas.{are_named, formed_at, found_turn, is_more, lacks_at}
-use Rattle.wy_top.proofs.JudgedLemmas.{same_condition, within_at}
+use Rattle.wy_batch.proofs.JudgedLemmas.{same_condition, within_at}
 use Rattle.wy_top.proofs.found.found_certificates.Goals as goal
 
 pub with_found-requires-clause-formed : goal.with_found-requires-clause-formed
