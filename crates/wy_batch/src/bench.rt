@@ -27,10 +27,13 @@ pub struct Bench {
 pub fn bare_bench(alloc: Global) -> Bench
     ensures { (from : List Plain) → IsBench from result }
 {
+    let terms = Terms::new(alloc);
+    let images = HashMap::new(alloc);
+    let carried = nothing_carried(alloc, 0);
     Bench {
-        terms: Terms::new(alloc),
-        images: HashMap::new(alloc),
-        carried: nothing_carried(alloc, 0),
+        terms,
+        images,
+        carried,
     }
 }
 

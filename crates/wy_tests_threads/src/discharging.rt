@@ -1,13 +1,17 @@
 //! One worker and many judge all conditions, each once, and side by side.
+ghost use Rattle.wy_cert.specs.Steps.{NameTheirTerms};
+
 use crate::gates::{Drawing, Pair};
 use crate::spelled::{ABS, AREA, conditions, counted};
 use std::alloc::Global;
 use std::sync::atomic::{AtomicBool, Ordering};
 use std::test::Fail;
-use wy_batch::{Claims, End, OpenGate, Verdict, discharge, work};
+use wy_batch::{Claims, End, OpenGate, Verdict, discharge, judge, work};
 use wy_cert::{Certs, read_certs};
 
-fn no_certificates(alloc: Global) -> Certs {
+fn no_certificates(alloc: Global) -> Certs
+    ensures { NameTheirTerms result }
+{
     Certs {
         list: Vec::new(alloc),
     }
@@ -78,6 +82,7 @@ fn verdicts_stand_in_order(rt: HostRuntime) -> Result<(), Fail> {
         let Ok(conds) = counted(rt.alloc(), count) else {
             panic!(rt; "no conditions")
         };
+        assert_eq!(rt; conds.list.len(), count as usize);
         for workers in [1, 2, 3, 64] {
             let Ok(verdicts) = discharge(&rt, rt.alloc(), &conds, &certs, 20, workers, &OpenGate)
             else {
@@ -92,6 +97,26 @@ fn verdicts_stand_in_order(rt: HostRuntime) -> Result<(), Fail> {
     Ok(())
 }
 
+#[test]
+fn one_worker_needs_no_copies(rt: HostRuntime) -> Result<(), Fail> {
+    let certs = no_certificates(rt.alloc());
+    for workers in [1, 3] {
+        let Ok(mut conds) = counted(rt.alloc(), 64) else {
+            panic!(rt; "no conditions")
+        };
+        assert_eq!(rt; conds.list.len(), 64);
+        let terms = conds.terms.len();
+        let Ok(verdicts) = judge(&rt, rt.alloc(), &mut conds, &certs, 20, workers) else {
+            panic!(rt; "memory")
+        };
+        assert!(rt; verdicts.len() == 64 && conds.list.len() == 64 && conds.terms.len() == terms);
+        for (number, verdict) in verdicts.iter().enumerate() {
+            assert!(rt; is_counted(number, verdict), "{} by {}", number, workers);
+        }
+    }
+    Ok(())
+}
+
 // The second certificate closes its condition, and the first names a literal that isn't there.
 const CERTIFICATES: &str = "wycert 1\ncond 2\nsum 1 1 1 2\ncond 1\nsum 1 9\nend\n";
 
@@ -100,6 +125,7 @@ fn certificates_are_judged_first(rt: HostRuntime) -> Result<(), Fail> {
     let Ok(conds) = counted(rt.alloc(), 3) else {
         panic!(rt; "no conditions")
     };
+    assert_eq!(rt; conds.list.len(), 3);
     let Ok(certs) = read_certs(rt.alloc(), CERTIFICATES.as_bytes(), 3) else {
         panic!(rt; "no certificates")
     };
@@ -122,6 +148,7 @@ fn budgets_are_spent(rt: HostRuntime) -> Result<(), Fail> {
     let Ok(conds) = conditions(rt.alloc(), AREA) else {
         panic!(rt; "no conditions")
     };
+    assert_eq!(rt; conds.list.len(), 2);
     let certs = no_certificates(rt.alloc());
     let Ok(verdicts) = discharge(&rt, rt.alloc(), &conds, &certs, 0, 2, &OpenGate) else {
         panic!(rt; "memory")
@@ -135,6 +162,7 @@ fn a_worker_of_a_callers_own_judges_what_it_draws(rt: HostRuntime) -> Result<(),
     let Ok(conds) = counted(rt.alloc(), 5) else {
         panic!(rt; "no conditions")
     };
+    assert_eq!(rt; conds.list.len(), 5);
     let certs = no_certificates(rt.alloc());
     let Ok((claims, mut seat)) = Claims::new(rt.alloc(), 5, 2) else {
         panic!(rt; "memory")

@@ -48,14 +48,14 @@ impl Drawing {
 
     /// Whether the condition with this number has passed.
     pub fn passed(&self, number: u32) -> bool {
-        match self.flags.get(number as usize - 1) {
+        match self.flags.get((number as usize).wrapping_sub(1)) {
             Some(flag) => flag.load(Ordering::SeqCst),
             None => false,
         }
     }
 
     fn set(&self, number: u32) {
-        if let Some(flag) = self.flags.get(number as usize - 1) {
+        if let Some(flag) = self.flags.get((number as usize).wrapping_sub(1)) {
             flag.store(true, Ordering::SeqCst);
         }
     }

@@ -1,5 +1,5 @@
 //! Conditions that are spelled by their formulas.
-ghost use Rattle.std.specs.Prelude.{◌<◌, ◌≤◌, All, IfOk, OnOk, length};
+ghost use Rattle.std.specs.Prelude.{◌≡◌, ◌<◌, All, IfOk, IfSome, length, true};
 ghost use Rattle.wy_batch.specs.wy_check.Within.{IsWithin};
 
 use std::alloc::Global;
@@ -59,43 +59,64 @@ not num(x.0) <= -9223372036854775808
 0 <= num(x.0)";
 
 // The number of the formula that a line spells.
-fn formula(terms: &mut Terms, line: &str) -> Result<u32, NoMemory>
-    ensures within { IfOk result (λ t. t < length terms.new) }
-    ensures grows { length terms.old ≤ length terms.new }
-{
+fn formula(terms: &mut Terms, line: &str) -> Result<u32, NoMemory> {
     match read_formula(terms, line.as_bytes())? {
         Some(formula) => Ok(formula),
         None => Err(NoMemory),
     }
 }
 
-// One hypothesis more: what was the goal, if there was one.
-fn put(cond: &mut Cond, goal: u32, is_first: bool) -> Result<(), NoMemory> {
-    if !is_first {
-        cond.hyps.push(cond.goal)?;
-    }
-    cond.goal = goal;
-    Ok(())
-}
-
-// The condition that a text spells, which has a line.
+// The condition that the lines of a text spell: each but the last is a hypothesis.
 fn condition(alloc: Global, terms: &mut Terms, text: &str) -> Result<Cond, NoMemory> {
-    let mut cond = Cond {
+    let mut hyps = Vec::new(alloc);
+    for line in text.split('\n') {
+        let formula = formula(terms, line)?;
+        hyps.push(formula)?;
+    }
+    let Some(goal) = hyps.pop() else {
+        return Err(NoMemory);
+    };
+    Ok(Cond {
         kind: CondKind::Assert,
         at: 0,
-        hyps: Vec::new(alloc),
-        goal: 0,
+        hyps,
+        goal,
         unfold: Unfold {
             list: Vec::new(alloc),
         },
-    };
-    let mut is_first = true;
-    for line in text.split('\n') {
-        let goal = formula(terms, line)?;
-        put(&mut cond, goal, is_first)?;
-        is_first = false;
+    })
+}
+
+// Whether each of these numbers is below the count.
+fn are_below(numbers: &[u32], count: usize) -> bool
+    ensures { result ≡ true → All (λ n. n < count) numbers.now }
+{
+    for number in numbers {
+        if *number as usize >= count {
+            return false;
+        }
     }
-    Ok(cond)
+    true
+}
+
+// Whether a condition that mentions no named type is written in so many terms.
+fn is_within(cond: &Cond, count: usize) -> bool
+    ensures { result ≡ true → IsWithin count cond.now }
+{
+    are_below(&cond.hyps, count) && (cond.goal as usize) < count && cond.unfold.list.is_empty()
+}
+
+// These conditions, which are written in their terms.
+fn written(conds: Conds) -> Result<Conds, NoMemory>
+    ensures within { IfOk result (λ c. All (IsWithin (length c.terms)) c.list.items) }
+{
+    let count = conds.terms.len();
+    for cond in &conds.list {
+        if !is_within(cond, count) {
+            return Err(NoMemory);
+        }
+    }
+    Ok(conds)
 }
 
 /// The conditions that a text spells.
@@ -108,7 +129,7 @@ pub fn conditions(alloc: Global, text: &str) -> Result<Conds, NoMemory>
         let cond = condition(alloc, &mut terms, part)?;
         list.push(cond)?;
     }
-    Ok(Conds { terms, list })
+    written(Conds { terms, list })
 }
 
 /// So many conditions, of which each third one, from the first on, stays open, and the others are found.
@@ -126,5 +147,5 @@ pub fn counted(alloc: Global, count: u32) -> Result<Conds, NoMemory>
         let cond = condition(alloc, &mut terms, text)?;
         list.push(cond)?;
     }
-    Ok(Conds { terms, list })
+    written(Conds { terms, list })
 }
