@@ -60,13 +60,7 @@ fn judged_there(
     ensures bench { (from : List Plain) → IsBench from bench.old → OnOk result (IsBench from bench.new) }
 {
     let given = given_for(&mut bench.terms, places, certs, cond, number)?;
-    judged_one(
-        &mut bench.terms,
-        &mut bench.carried,
-        cond,
-        given,
-        budget,
-    )
+    judged_one(&mut bench.terms, &mut bench.carried, cond, given, budget)
 }
 
 // The verdict on what was supplied for the condition with this number, from 1.
