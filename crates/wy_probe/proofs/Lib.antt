@@ -10,3 +10,12 @@ mod ListLemmas
 mod TableLemmas
 -- what is made of the tables of parts
 mod CandidateLemmas
+-- what a test and a run say of one tuple
+mod TrialLemmas
+-- tuples tried one after another
+mod TriedLemmas
+-- there is a finding, and one
+mod SomeLemmas
+pub mod OnceLemmas
+-- numbers of functions and methods
+pub mod RoutineLemmas
