@@ -1,7 +1,7 @@
 -- What stands on a worker's bench.
 use Rattle.std.proofs.Common.{◌≡◌, ◌∙◌, ◌<◌, ◌≤◌, ◌+◌, ℕ, List, [], ◌∷◌, ◌++◌, All, length, get_or, map, take, cond, eqb, Option, Some, None, refl, sym, ap, subst, arith}
 use Rattle.std.proofs.lemmas.List.{map-append, take_more}
-use Rattle.std.proofs.lemmas.List.Elements.{All-head, All-push, All-tail, All-weaker}
+use Rattle.std.proofs.lemmas.List.Elements.{All-head, All-nil, All-push, All-tail, All-weaker}
 use Rattle.wy_check.proofs.StayLemmas.{more_taken}
 use Rattle.wy_check.proofs.wy_check_nodes_proofs.fronts_lemmas.FrontLemmas.{front_stays}
 use Rattle.wy_check.specs.Within.{IsWithin}
@@ -86,6 +86,9 @@ trees_more from old new hs rs all i r stays below so lt pushed here =
     ∙ ap (λ (t : Term). map (tree_at from) (take i hs) ++ t ∷ []) here
     ∙ sym (ap (map (tree_at from)) (take_more hs i 0 lt) ∙ map-append (tree_at from) (take i hs) (get_or hs i 0 ∷ []))
 
+pub none_below : (n : ℕ) (rs : List ℕ) → rs ≡ [] → AreBelow n rs
+none_below n rs none = subst (AreBelow n) (sym none) (All-nil (λ (k : ℕ). k < n))
+
 -- ---- entries
 
 abbrev pub Triple : Type 0
@@ -95,11 +98,21 @@ Triple = ℕ × ℕ × ℕ
 abbrev pub IsEntryBelow : ℕ → Triple → Type 0
 IsEntryBelow n e = (e.1 < n) × (e.2 < n)
 
-
 pub entries_below_more : (old new : List Plain) (es all : List Triple) (e : Triple) → length old ≤ length new → all ≡ es ++ e ∷ [] → All (IsEntryBelow (length old)) es → IsEntryBelow (length new) e → All (IsEntryBelow (length new)) all
 entries_below_more old new es all e grows pushed below here =
     subst (All (IsEntryBelow (length new))) (sym pushed)
     (All-push (IsEntryBelow (length new)) es e (All-weaker (IsEntryBelow (length old)) (IsEntryBelow (length new)) (λ k h. (omega (arith, h.0, grows), omega (arith, h.1, grows))) es below) here)
+
+pub no_entries : (n : ℕ) (es : List Triple) → es ≡ [] → All (IsEntryBelow n) es
+no_entries n es none = subst (All (IsEntryBelow n)) (sym none) (All-nil (IsEntryBelow n))
+
+abbrev entry_with : ℕ → Term → Term → Entry
+entry_with n v f = record { type_number = n; name = v; formula = f }
+
+-- the copy of an entry
+pub entry_same : (from mid new : List Plain) (d : Triple) (name formula : ℕ) → Stays mid new → name < length mid → tree_at mid name ≡ tree_at from d.1 → tree_at new formula ≡ tree_at from d.2 → entry_of new (d.0, name, formula) ≡ entry_of from d
+entry_same from mid new d name formula stays lt a b =
+    ap (λ (t : Term). entry_with d.0 t (tree_at new formula)) (stays.trees name lt ∙ a) ∙ ap (entry_with d.0 (tree_at from d.1)) b
 
 -- one entry more
 pub entries_more : (from old new : List Plain) (ds es all : List Triple) (i : ℕ) (d e : Triple) → Stays old new → All (IsEntryBelow (length old)) es → map (entry_of old) es ≡ map (entry_of from) (take i ds) → i < length ds → all ≡ es ++ e ∷ []

@@ -1,4 +1,4 @@
-use Rattle.std.proofs.Common.{◌≡◌, ◌∙◌, ◌≤◌, List, All, length, map, refl, sym, ap, subst}
+use Rattle.std.proofs.Common.{◌≡◌, ◌∙◌, ◌≤◌, List, All, length, map, refl, sym, ap, subst, arith}
 use Rattle.wy_batch.proofs.JudgedLemmas.{all_within, same_conditions}
 use Rattle.wy_batch.specs.Known.{AreKnown}
 use Rattle.wy_batch.specs.Seen.{known}
@@ -16,6 +16,9 @@ use Rattle.wy_top_answers.specs.wy_vc_laws.shown.Certified.{AreFormed}
 use Rattle.wy_vc.specs.Told.{seen_cond}
 use Rattle.wy_vc.specs.wy_vc_spec.Limits.{most_conditions}
 use Rattle.wy_top.proofs.judging.judge_all.Goals as goal
+
+pub judge-requires : goal.judge-requires
+judge-requires g c = record { conds = c.requires.kept.numbers; certs = c.requires.names; few = omega (arith, c.requires.kept.few); workers = c.requires.workers }
 
 pub returns-in-Ok-clause-verdicts : goal.returns-in-Ok-clause-verdicts
 returns-in-Ok-clause-verdicts g c =
