@@ -1,9 +1,8 @@
 -- What stands on a worker's bench.
-use Rattle.std.proofs.Common.{◌≡◌, ◌∙◌, ◌<◌, ◌≤◌, ◌+◌, ℕ, List, [], ◌∷◌, ◌++◌, All, length, get_or, map, take, cond, eqb, Option, Some, None, refl, sym, ap, subst, arith}
+use Rattle.std.proofs.Common.{◌≡◌, ◌∙◌, ◌<◌, ◌≤◌, ◌+◌, ℕ, List, [], ◌∷◌, ◌++◌, All, length, get_or, map, take, Option, Some, None, refl, sym, ap, subst, arith}
 use Rattle.std.proofs.lemmas.List.{map-append, take_more}
 use Rattle.std.proofs.lemmas.List.Elements.{All-head, All-nil, All-push, All-tail, All-weaker}
 use Rattle.wy_check.proofs.wy_check_nodes_proofs.fronts_lemmas.FrontLemmas.{front_stays}
-use Rattle.wy_check.specs.Within.{IsWithin}
 use Rattle.wy_search.proofs.wy_search_bounds_proofs.KnownLemmas.{known_stays, noted_agree}
 use Rattle.wy_search.proofs.wy_search_bounds_proofs.wy_facts_proofs.SharedLemmas.{entries_stay}
 use Rattle.wy_search.specs.Carried.{IsCarried}
@@ -11,11 +10,9 @@ use Rattle.wy_search.specs.declared.carried.Carried.{Carried}
 use Rattle.wy_search.specs.wy_search_bounds.Known.{AreKnown, lasting_place}
 use Rattle.wy_search.specs.wy_search_bounds.declared.known.KnownForms.{KnownForms}
 use Rattle.wy_search.specs.wy_search_bounds.wy_facts.Seen.{AreBelow, Stays}
-use Rattle.wy_term.proofs.CopyingLemmas.{AreCopied_put}
 use Rattle.wy_term.specs.Condition.{Condition, Entry, condition_of, entry_of}
 use Rattle.wy_term.specs.Copying.{AreCopied}
 use Rattle.wy_term.specs.Nodes.{Plain, tree_at}
-use Rattle.wy_term.specs.Numbers.{IsAt}
 use Rattle.wy_term.specs.Term.{Term}
 use Rattle.wy_term.specs.declared.cond.Cond.{Cond}
 

@@ -1,5 +1,5 @@
 -- What a worker draws and judges, step by step, and what two come to together.
-use Rattle.std.proofs.Common.{◌≡◌, ◌∙◌, ◌+◌, ◌≤◌, ℕ, List, [], ◌∷◌, ◌++◌, All, length, map, refl, sym, ap, subst, append_assoc, append-nil, arith}
+use Rattle.std.proofs.Common.{◌≡◌, ◌∙◌, ◌+◌, ℕ, List, [], ◌∷◌, ◌++◌, refl, sym, ap, subst, append_assoc, append-nil}
 use Rattle.std.proofs.lemmas.List.Elements.{All-append, All-nil, All-push}
 use Rattle.wy_batch.specs.Judged.{AreVerdictsAt, DrewMore, IsVerdictAt, conditions_in}
 use Rattle.wy_batch.specs.Working.{IsDone, numbers_of, seat_after, seat_drawing}

@@ -1,4 +1,4 @@
-use Rattle.std.proofs.Common.{◌≡◌, ◌∙◌, ◌<◌, ◌≤◌, ◌+◌, length, refl, sym, ap, rules, arith}
+use Rattle.std.proofs.Common.{◌≡◌, ◌∙◌, length, ap, rules, arith}
 use Rattle.std.proofs.lemmas.List.{length_push}
 use Rattle.wy_batch.proofs.WorkLemmas.{drew_nothing, drew_one_more, drew_to_the_end, seat_begins, seat_ends, seat_next, verdicts_begin, verdicts_next}
 use Rattle.wy_batch.specs.Judged.{conditions_in}
