@@ -16,6 +16,7 @@ ghost use Rattle.wy_batch.specs.Seen.{known, NamesTerms, NameTerms, seen_end};
 
 use crate::counting::{spent, still_open};
 use std::alloc::Global;
+use wy_batch::{End, Verdict};
 use wy_link_load::Lines;
 use wy_prove::{OpenLeaf, Why};
 use wy_term::{Cond, NoMemory, Terms};
