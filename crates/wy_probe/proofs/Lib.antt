@@ -10,3 +10,10 @@ mod ListLemmas
 mod TableLemmas
 -- what is made of the tables of parts
 mod CandidateLemmas
+-- tuples tried one after another
+mod TriedLemmas
+-- there is a finding, and one
+mod SomeLemmas
+pub mod OnceLemmas
+-- numbers of functions and methods
+pub mod RoutineLemmas

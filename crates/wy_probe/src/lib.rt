@@ -1,9 +1,10 @@
-//! What a probe for faults tries: arguments of a function or method, one tuple after another.
+//! A probe for faults: arguments on which a program really faults.
 //!
 //! For each parameter `candidates` has the values that are tried, a table by the parameter's type, which `lists`, `arrays`
-//! and `records` put together, and of which `tables` keeps those of declared types; `parameters` has the public call.
-//! `tuples` puts one value of each parameter together, one tuple after another, the first values first. Nothing is run
-//! here, and nothing is told of faults.
+//! and `records` put together, and of which `tables` keeps those of declared types; `parameters` has the call for all of them.
+//! `tuples` puts one value of each parameter together, one tuple after another, the first values first. `trials` tells of one
+//! tuple what it comes to: whether it meets the precondition, and whether the value semantics faults on it. `probing` has the
+//! public call, which goes through the tuples up to the first that faults.
 #![tactic(auto)]
 
 mod arrays;
@@ -11,12 +12,15 @@ mod candidates;
 mod laws;
 mod lists;
 mod parameters;
+mod probing;
 mod records;
 mod tables;
 #[cfg(test)]
 mod tests;
+mod trials;
 mod tuples;
 
-pub use laws::tuples_come_in_order;
+pub use laws::{there_is_one_finding, tuples_come_in_order};
 pub use parameters::lists_of;
+pub use probing::{ProbeEnd, probe};
 pub use tuples::{first_tuple, has_empty, next_tuple_of};

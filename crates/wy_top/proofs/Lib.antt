@@ -36,8 +36,11 @@ pub mod RunLemmas
 pub mod LargeLemmas
 pub mod SaveLemmas
 pub mod ExactLemmas
+pub mod ProbeLemmas
 -- passed on to the crates above
 pub use Rattle.wy_gen_sources.proofs as wy_gen_sources_proofs
 pub use Rattle.wy_link_load.proofs as wy_link_load_proofs
 pub use Rattle.wy_mach_run.proofs as wy_mach_run_proofs
 pub use Rattle.wy_prove.proofs.wy_search_laws_proofs as wy_search_laws_proofs
+pub use Rattle.wy_probe.proofs as wy_probe_proofs
+pub use Rattle.wy_top_source.proofs as wy_top_source_proofs

@@ -23,6 +23,7 @@ pub mod Kept
 pub mod Texts
 pub mod Launching
 pub mod Large
+pub mod Probing
 -- what the calls that run programs ask for
 pub mod Going
 -- what sinks and files show of it
@@ -43,5 +44,6 @@ pub use Rattle.wy_gen_sources.specs as wy_gen_sources
 pub use Rattle.wy_link_load.specs as wy_link_load
 pub use Rattle.wy_mach_run.specs.wy_mach as wy_mach
 pub use Rattle.wy_mach_run.specs as wy_mach_run
+pub use Rattle.wy_probe.specs as wy_probe
 pub use Rattle.wy_top_answers.specs as wy_top_answers
 pub use Rattle.wy_top_source.specs as wy_top_source

@@ -35,8 +35,8 @@ fn fault_line(alloc: Global, name: &str, bytes: &[u8], fault: Refusal) -> Result
     source_fault(alloc, name, place.line, place.column, word(fault))
 }
 
-// The answer to a fault.
-fn fault_answer(alloc: Global, name: &str, bytes: &[u8], fault: Refusal) -> Answer
+/// The answer to a fault.
+pub fn fault_answer(alloc: Global, name: &str, bytes: &[u8], fault: Refusal) -> Answer
     ensures value { AnswersFault (refusals.is_no_memory fault) 1 (spec.fault_lines name.now bytes.now fault) result }
 {
     if is_no_memory(fault) {
