@@ -3,7 +3,6 @@ mod TupleLemmas
 -- positions that lie in their lists
 mod FitLemmas
 -- values that are the same
-mod SameLemmas
 -- loops over lists of values
 mod ListLemmas
 -- the tables of declared types have the candidates

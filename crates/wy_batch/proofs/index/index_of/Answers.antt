@@ -1,0 +1,15 @@
+use Rattle.std.proofs.Common.{◌≡◌, ◌<◌, ◌≤◌, length, nat_eq, refl, rules, arith}
+use Rattle.std.specs.HashMap.{get}
+use Rattle.wy_batch.proofs.IndexLemmas.{index_begins, index_next}
+use Rattle.wy_batch.proofs.index.index_of.Goals as goal
+
+pub back-init : goal.back-init
+back-init c =
+    let whole : c.len-place.result ≡ length c.args.certs.now.list.items = search rules in
+    record {
+      within = omega (arith, whole);
+      found = index_begins c.args.certs.now.list.items c.len-place.result (get nat_eq c.new-places.result) (omega (arith, whole)) (λ q. rw c.new-places.ensures.empty refl);
+    }
+
+pub back-preserved : goal.back-preserved
+back-preserved c = ?
