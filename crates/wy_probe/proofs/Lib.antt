@@ -9,6 +9,8 @@ mod ListLemmas
 mod TableLemmas
 -- what is made of the tables of parts
 mod CandidateLemmas
+-- the values at positions in lists
+mod PickLemmas
 -- tuples tried one after another
 mod TriedLemmas
 -- there is a finding, and one

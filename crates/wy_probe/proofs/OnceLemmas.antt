@@ -1,9 +1,9 @@
 -- There is one finding.
-use Rattle.std.proofs.Common.{◌≡◌, ◌++◌, ℕ, zero, suc, List, [], ◌∷◌, length, Option, refl, sym, ap, ap₂, ◌∙◌, subst}
+use Rattle.std.proofs.Common.{◌≡◌, ◌++◌, ℕ, suc, List, [], ◌∷◌, length, Option, refl, sym, ap, ap₂, ◌∙◌, subst}
 use Rattle.wy_term.specs.declared.cond.CondKind.{CondKind}
 use Rattle.wy_value.specs.Datum.{Datum}
 use Rattle.wy_sem.specs.Meter.{Meter, Outcome, Fault}
-use Rattle.wy_probe.specs.Trials.{Counted, no_more, one_more, not_one, DoesFault, Faulted, Faultless, Finding, Finds, FindsOnce, FoundIn, IsMet, IsUndecided, NeverFaults, NoneFaults, NoneIn, Probe}
+use Rattle.wy_probe.specs.Trials.{Counted, no_more, one_more, not_one, DoesFault, Faulted, Faultless, FindsOnce, FoundIn, IsMet, IsUndecided, NoneFaults, NoneIn, Probe}
 
 -- ---- the counts
 

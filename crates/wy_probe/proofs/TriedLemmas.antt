@@ -1,5 +1,5 @@
 -- Tuples tried one after another.
-use Rattle.std.proofs.Common.{◌≡◌, ◌≤◌, ◌<◌, ◌+◌, ◌-◌, ◌++◌, ℕ, zero, suc, List, [], ◌∷◌, map, length, Bool, true, false, Option, Some, None, refl, sym, ap, ◌∙◌, subst, arith, append-nil}
+use Rattle.std.proofs.Common.{◌≡◌, ◌≤◌, ◌<◌, ◌-◌, ◌++◌, ℕ, zero, suc, List, [], ◌∷◌, map, length, Bool, true, false, Option, Some, None, refl, sym, ap, ◌∙◌, subst, arith, append-nil}
 use Rattle.wy_lemmas.proofs.Lists.{append_mid}
 use Rattle.wy_term.specs.declared.cond.CondKind.{CondKind}
 use Rattle.wy_value.specs.Datum.{Datum}
@@ -74,12 +74,6 @@ all_tried p all tried met undecided h =
       undecided_are = subst (λ l. Counted (IsUndecided p) l undecided) same h.undecided_are;
     }
 
-pub met_most : (p : Probe) (all rest : List (List Datum)) (tried met undecided : ℕ) → Tried p all rest tried met undecided → met ≤ tried
-met_most p all rest tried met undecided h = let le = counted_most (IsMet p) h.before met h.met_are in let n = h.tried_are in omega (arith, le, n)
-
-pub undecided_most : (p : Probe) (all rest : List (List Datum)) (tried met undecided : ℕ) → Tried p all rest tried met undecided → undecided ≤ tried
-undecided_most p all rest tried met undecided h = let le = counted_most (IsUndecided p) h.before undecided h.undecided_are in let n = h.tried_are in omega (arith, le, n)
-
 -- ---- the tuples of lists, from the next one on
 
 module _ (p : Probe) (lists : List (List Datum)) (n : ℕ) where
@@ -87,8 +81,23 @@ module _ (p : Probe) (lists : List (List Datum)) (n : ℕ) where
   abbrev pub Stands : ℕ → Option (List ℕ) → ℕ → ℕ → ℕ → Type 0
   Stands count next tried met undecided = Tried p (first_of lists n) (map (picked lists) (tuples_from (map length lists) count next)) tried met undecided
 
-  pub stands_first : Stands n (first_one (map length lists)) 0 0 0
-  stands_first = subst (λ l. Tried p (first_of lists n) (map (picked lists) l) 0 0 0) (sym (in_order (map length lists) n)) (none_tried p (first_of lists n))
+  pub moved : (count count' : ℕ) (next next' : Option (List ℕ)) (tried tried' met met' undecided undecided' : ℕ) → count' ≡ count → next' ≡ next → tried' ≡ tried → met' ≡ met → undecided' ≡ undecided
+      → Stands count next tried met undecided → Stands count' next' tried' met' undecided'
+  moved count count' next next' tried tried' met met' undecided undecided' c o t m u h =
+      subst (λ x. Stands x next' tried' met' undecided') (sym c) (subst (λ x. Stands count x tried' met' undecided') (sym o) (subst (λ x. Stands count next x met' undecided') (sym t)
+      (subst (λ x. Stands count next tried x undecided') (sym m) (subst (λ x. Stands count next tried met x) (sym u) h))))
+
+  pub stands_first : (next : Option (List ℕ)) → next ≡ first_one (map length lists) → Stands (n - 0) next 0 0 0
+  stands_first next is =
+      let begun : Stands n (first_one (map length lists)) 0 0 0 = subst (λ l. Tried p (first_of lists n) (map (picked lists) l) 0 0 0) (sym (in_order (map length lists) n)) (none_tried p (first_of lists n)) in
+      let all : n - 0 ≡ n = omega arith in
+      moved n (n - 0) _ next 0 0 0 0 0 0 all is refl refl refl begun
+
+  pub stands_met : (count : ℕ) (next : Option (List ℕ)) (tried met undecided : ℕ) → Stands count next tried met undecided → met ≤ tried
+  stands_met count next tried met undecided h = let le = counted_most (IsMet p) h.before met h.met_are in let k = h.tried_are in omega (arith, le, k)
+
+  pub stands_undecided : (count : ℕ) (next : Option (List ℕ)) (tried met undecided : ℕ) → Stands count next tried met undecided → undecided ≤ tried
+  stands_undecided count next tried met undecided h = let le = counted_most (IsUndecided p) h.before undecided h.undecided_are in let k = h.tried_are in omega (arith, le, k)
 
   module _ (number : ℕ) (tuple : List ℕ) (vs : List Datum) (tried met undecided : ℕ) (within : number < n) (same : vs ≡ picked lists tuple) (h : Stands (n - number) (Some tuple) tried met undecided) where
     abbrev rest : List (List Datum)
