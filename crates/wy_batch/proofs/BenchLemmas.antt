@@ -1,10 +1,8 @@
 -- What stands on a worker's bench.
-use Rattle.std.proofs.Common.{◌≡◌, ◌∙◌, ◌<◌, ◌≤◌, ◌+◌, ℕ, List, [], ◌∷◌, ◌++◌, All, length, get_or, map, take, cond, eqb, Option, Some, None, refl, sym, ap, subst, arith}
+use Rattle.std.proofs.Common.{◌≡◌, ◌∙◌, ◌<◌, ◌≤◌, ◌+◌, ℕ, List, [], ◌∷◌, ◌++◌, All, length, get_or, map, take, Option, Some, None, refl, sym, ap, subst, arith}
 use Rattle.std.proofs.lemmas.List.{map-append, take_more}
 use Rattle.std.proofs.lemmas.List.Elements.{All-head, All-nil, All-push, All-tail, All-weaker}
-use Rattle.wy_check.proofs.StayLemmas.{more_taken}
 use Rattle.wy_check.proofs.wy_check_nodes_proofs.fronts_lemmas.FrontLemmas.{front_stays}
-use Rattle.wy_check.specs.Within.{IsWithin}
 use Rattle.wy_search.proofs.wy_search_bounds_proofs.KnownLemmas.{known_stays, noted_agree}
 use Rattle.wy_search.proofs.wy_search_bounds_proofs.wy_facts_proofs.SharedLemmas.{entries_stay}
 use Rattle.wy_search.specs.Carried.{IsCarried}
@@ -12,11 +10,9 @@ use Rattle.wy_search.specs.declared.carried.Carried.{Carried}
 use Rattle.wy_search.specs.wy_search_bounds.Known.{AreKnown, lasting_place}
 use Rattle.wy_search.specs.wy_search_bounds.declared.known.KnownForms.{KnownForms}
 use Rattle.wy_search.specs.wy_search_bounds.wy_facts.Seen.{AreBelow, Stays}
-use Rattle.wy_term.proofs.CopyingLemmas.{AreCopied_put}
 use Rattle.wy_term.specs.Condition.{Condition, Entry, condition_of, entry_of}
 use Rattle.wy_term.specs.Copying.{AreCopied}
 use Rattle.wy_term.specs.Nodes.{Plain, tree_at}
-use Rattle.wy_term.specs.Numbers.{IsAt}
 use Rattle.wy_term.specs.Term.{Term}
 use Rattle.wy_term.specs.declared.cond.Cond.{Cond}
 
@@ -55,13 +51,12 @@ pub carried_stays : (old new : List Plain) (c : Carried) → Stays old new → I
 carried_stays old new c stays is = record { forms = known_stays old new c.forms stays is.forms; front = front_stays old new c.front stays is.front }
 
 -- forms of literals over all terms last
-pub floor_raised : (nodes : List Plain) (old new : KnownForms) → new ≡ record old { floor = length nodes } → AreKnown nodes old → AreKnown nodes new
-floor_raised nodes old new is are =
-    subst (AreKnown nodes) (sym is) (record {
-      floor = omega arith;
-      lasting = noted_agree old.floor (length nodes) (tree_at nodes) (tree_at nodes) (lasting_place old.lasting) old.lasting.made.items (λ t lt. refl) are.floor are.lasting;
-      passing = are.passing;
-    })
+pub floor_raised : (nodes : List Plain) (old : KnownForms) (n : ℕ) → n ≡ length nodes → AreKnown nodes old → AreKnown nodes (record old { floor = n })
+floor_raised nodes old n is are = record {
+  floor = omega (arith, is);
+  lasting = noted_agree old.floor n (tree_at nodes) (tree_at nodes) (lasting_place old.lasting) old.lasting.made.items (λ t lt. refl) (omega (arith, is, are.floor)) are.lasting;
+  passing = are.passing;
+}
 
 -- ---- lists of copies
 
@@ -115,14 +110,14 @@ entry_same from mid new d name formula stays lt a b =
     ap (λ (t : Term). entry_with d.0 t (tree_at new formula)) (stays.trees name lt ∙ a) ∙ ap (entry_with d.0 (tree_at from d.1)) b
 
 -- one entry more
-pub entries_more : (from old new : List Plain) (ds es all : List Triple) (i : ℕ) (d e : Triple) → Stays old new → All (IsEntryBelow (length old)) es → map (entry_of old) es ≡ map (entry_of from) (take i ds) → i < length ds → all ≡ es ++ e ∷ []
-    → d ≡ get_or ds i d → entry_of new e ≡ entry_of from d → map (entry_of new) all ≡ map (entry_of from) (take (i + 1) ds)
-entries_more from old new ds es all i d e stays below so lt pushed at here =
+pub entries_more : (from old new : List Plain) (ds es all : List Triple) (i : ℕ) (z e : Triple) → Stays old new → All (IsEntryBelow (length old)) es → map (entry_of old) es ≡ map (entry_of from) (take i ds) → i < length ds → all ≡ es ++ e ∷ []
+    → entry_of new e ≡ entry_of from (get_or ds i z) → map (entry_of new) all ≡ map (entry_of from) (take (i + 1) ds)
+entries_more from old new ds es all i z e stays below so lt pushed here =
     ap (map (entry_of new)) pushed
     ∙ map-append (entry_of new) es (e ∷ [])
     ∙ ap (λ (fs : List Entry). fs ++ entry_of new e ∷ []) (entries_stay old new es stays below ∙ so)
     ∙ ap (λ (f : Entry). map (entry_of from) (take i ds) ++ f ∷ []) here
-    ∙ sym (more_taken (entry_of from) ds i d lt at)
+    ∙ sym (ap (map (entry_of from)) (take_more ds i z lt) ∙ map-append (entry_of from) (take i ds) (get_or ds i z ∷ []))
 
 -- ---- conditions
 

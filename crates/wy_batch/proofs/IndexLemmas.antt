@@ -1,5 +1,5 @@
 -- Where the certificate for a condition stands.
-use Rattle.std.proofs.Common.{◌≡◌, ◌∙◌, ◌<◌, ◌≤◌, ◌+◌, ℕ, zero, suc, List, [], ◌∷◌, length, get_or, map, drop, cond, eqb, Bool, true, false, Option, Some, None, refl, sym, ap, subst, arith}
+use Rattle.std.proofs.Common.{◌≡◌, ◌∙◌, ◌<◌, ◌≤◌, ◌+◌, ℕ, suc, List, [], ◌∷◌, length, get_or, map, drop, cond, eqb, Bool, true, false, Option, Some, None, refl, sym, ap, arith}
 use Rattle.std.proofs.lemmas.List.{drop_all, drop_more}
 use Rattle.wy_batch.specs.Index.{place_from}
 use Rattle.wy_cert.specs.Steps.{Certificates, Written, steps_of}
@@ -51,20 +51,20 @@ some_steps steps = Some steps
 
 pub none_for : (items : Pairs) (at n : ℕ) → place_from at items n ≡ None → certificate_for (read items) n ≡ None
 none_for [] at n e = refl
-none_for (c ∷ cs) at n e = by (eqb c.0 n) refl
+none_for (c ∷ cs) at n e = by (eqb c.0 n) refl (none_for cs (suc at) n)
   where
-    by : (b : Bool) → eqb c.0 n ≡ b → cond (eqb c.0 n) (some_steps (steps_of c.1)) (certificate_for (read cs) n) ≡ None
-    by true t = absurd (no_place at (ap (λ (x : Bool). cond x (some_place at) (place_from (suc at) cs n)) (sym t) ∙ e))
-    by false t =
+    by : (b : Bool) → eqb c.0 n ≡ b → (place_from (suc at) cs n ≡ None → certificate_for (read cs) n ≡ None) → cond (eqb c.0 n) (some_steps (steps_of c.1)) (certificate_for (read cs) n) ≡ None
+    by true t rest = absurd (no_place at (ap (λ (x : Bool). cond x (some_place at) (place_from (suc at) cs n)) (sym t) ∙ e))
+    by false t rest =
         let later : place_from (suc at) cs n ≡ None = ap (λ (x : Bool). cond x (some_place at) (place_from (suc at) cs n)) (sym t) ∙ e in
-        ap (λ (x : Bool). cond x (some_steps (steps_of c.1)) (certificate_for (read cs) n)) t ∙ none_for cs (suc at) n later
+        ap (λ (x : Bool). cond x (some_steps (steps_of c.1)) (certificate_for (read cs) n)) t ∙ rest later
 
 pub some_for : (items : Pairs) (at n p : ℕ) → place_from at items n ≡ Some p → IsPlaceOf items at n p
 some_for [] at n p e = absurd cc
-some_for (c ∷ cs) at n p e = by (eqb c.0 n) refl
+some_for (c ∷ cs) at n p e = by (eqb c.0 n) refl (some_for cs (suc at) n p)
   where
-    by : (b : Bool) → eqb c.0 n ≡ b → IsPlaceOf (c ∷ cs) at n p
-    by true t =
+    by : (b : Bool) → eqb c.0 n ≡ b → (place_from (suc at) cs n ≡ Some p → IsPlaceOf cs (suc at) n p) → IsPlaceOf (c ∷ cs) at n p
+    by true t rest =
         let here : at ≡ p = same_place at p (ap (λ (x : Bool). cond x (some_place at) (place_from (suc at) cs n)) (sym t) ∙ e) in
         record {
           behind = 0;
@@ -72,9 +72,9 @@ some_for (c ∷ cs) at n p e = by (eqb c.0 n) refl
           within = omega arith;
           steps = λ d is. ap (λ (x : Bool). cond x (some_steps (steps_of c.1)) (certificate_for (read cs) n)) t ∙ ap (λ (x : ℕ × Cert). some_steps (steps_of x.1)) (sym is);
         }
-    by false t =
+    by false t rest =
         let later : place_from (suc at) cs n ≡ Some p = ap (λ (x : Bool). cond x (some_place at) (place_from (suc at) cs n)) (sym t) ∙ e in
-        let h = some_for cs (suc at) n p later in
+        let h = rest later in
         record {
           behind = suc h.behind;
           is = omega (arith, h.is);

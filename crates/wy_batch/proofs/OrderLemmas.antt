@@ -8,7 +8,7 @@ use Rattle.std.proofs.lemmas.List.Sums.{get_or-le-sum_by, sum_by-cons}
 use Rattle.std.proofs.lemmas.Option.{slice_get-map, slice_get_within}
 use Rattle.wy_claim.specs.Claimed.{once_below, times}
 use Rattle.wy_claim.specs.Moments.{EachOnce}
-use Rattle.wy_batch.specs.Judged.{AreJudged, AreVerdictsAt, IsJudged, IsVerdictAt}
+use Rattle.wy_batch.specs.Judged.{AreJudged, IsJudged, IsVerdictAt}
 use Rattle.wy_cert.specs.Steps.{Certificates}
 use Rattle.wy_term.specs.Condition.{Condition}
 use Rattle.wy_batch.specs.Ordering.{ArePlaced, IsFull}
@@ -168,7 +168,7 @@ judged_from certs budget n (c ∷ cs) (v ∷ vs) same h =
     let here : n + 0 ≡ n = omega arith in (
       subst (λ (m : ℕ). IsJudged certs budget m c v) here (h 0 c v refl refl),
       judged_from certs budget (n + 1) cs vs (omega (arith, same))
-      (λ i d w a b. let later : n + suc i ≡ n + 1 + i = omega arith in subst (λ (m : ℕ). IsJudged certs budget m d w) later (h (suc i) d w a b)),
+          (λ i d w a b. let later : n + suc i ≡ n + 1 + i = omega arith in subst (λ (m : ℕ). IsJudged certs budget m d w) later (h (suc i) d w a b)),
     )
 
 -- what stands at its place stands in order
@@ -178,6 +178,7 @@ in_their_order certs budget count cs slots vs many long is placed =
   where
     some_verdict : Verdict → Option Verdict
     some_verdict v = Some v
+
     there : (i : ℕ) (c : Condition) (v : Verdict) → slice_get cs i ≡ Some c → slice_get vs i ≡ Some v → IsJudged certs budget (1 + i) c v
     there i c v a b =
         let h = placed i v (sym (ap (λ (xs : Slots). slice_get xs i) is) ∙ some_there vs i v b) in

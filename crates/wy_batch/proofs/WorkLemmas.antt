@@ -1,5 +1,5 @@
 -- What a worker draws and judges, step by step, and what two come to together.
-use Rattle.std.proofs.Common.{◌≡◌, ◌∙◌, ◌+◌, ◌≤◌, ℕ, List, [], ◌∷◌, ◌++◌, All, length, map, refl, sym, ap, subst, append_assoc, append-nil, arith}
+use Rattle.std.proofs.Common.{◌≡◌, ◌∙◌, ◌+◌, ℕ, List, [], ◌∷◌, ◌++◌, refl, sym, ap, subst, append_assoc, append-nil}
 use Rattle.std.proofs.lemmas.List.Elements.{All-append, All-nil, All-push}
 use Rattle.wy_batch.specs.Judged.{AreVerdictsAt, DrewMore, IsVerdictAt, conditions_in}
 use Rattle.wy_batch.specs.Working.{IsDone, numbers_of, seat_after, seat_drawing}
@@ -42,22 +42,11 @@ seat_next s old new vs ws p v at is pushed =
 pub seat_ends : (s old new : SeatView) (ns : List ℕ) → old ≡ seat_drawing s ns → new ≡ ended old → new ≡ seat_after s ns
 seat_ends s old new ns at is = is ∙ ap (λ (o : SeatView). ended o) at
 
--- one number more, which has no verdict
-seat_more : (s old new : SeatView) (ns : List ℕ) (p : ℕ) → old ≡ seat_drawing s ns → new ≡ drew old p → new ≡ seat_drawing s (ns ++ p ∷ [])
-seat_more s old new ns p at is = is ∙ ap (λ (o : SeatView). drew o p) at ∙ ap (with_list s) (append_assoc s.drawn ns (p ∷ []))
-
 -- nothing was drawn
 pub drew_nothing : (s : SeatView) → DrewMore s s
 drew_nothing s = record { more = []; is = sym (append-nil s.drawn) }
 
 -- the verdict on the last number lacks
-pub drew_one : (s old new : SeatView) (ns : List ℕ) (p : ℕ) → old ≡ seat_drawing s ns → new ≡ drew old p → DrewMore s new
-drew_one s old new ns p at is = drew_so_far s new (ns ++ p ∷ []) (seat_more s old new ns p at is)
-
--- the seat has what it had, and more
-pub drew_so_far : (s now : SeatView) (ns : List ℕ) → now ≡ seat_drawing s ns → DrewMore s now
-drew_so_far s now ns is = record { more = ns; is = ap (λ (o : SeatView). o.drawn) is }
-
 pub drew_one_more : (s old new : SeatView) (ns : List ℕ) (p : ℕ) → old ≡ seat_drawing s ns → new ≡ drew old p → DrewMore s new
 drew_one_more s old new ns p at is = record {
   more = ns ++ p ∷ [];

@@ -1,5 +1,5 @@
 -- Where the certificate for a condition stands in a list.
-use Rattle.std.specs.Prelude.{◌≡◌, ◌<◌, ℕ, ◌+◌, ◌==◌, suc, List, [], ◌∷◌, Option, Some, None, if◌then◌else◌}
+use Rattle.std.specs.Prelude.{◌≡◌, ℕ, ◌==◌, suc, List, [], ◌∷◌, Option, Some, None, if◌then◌else◌}
 use Rattle.wy_cert.specs.declared.step.Cert.{Cert}
 
 -- the place of the first certificate for the condition with this number, where the first of the list stands at this place

@@ -63,12 +63,22 @@ fn image(bench: &mut Bench, from: &Terms, t: u32) -> Result<u32, NoMemory>
 {
     match noted(&bench.images, t) {
         Some(image) => Ok(image),
-        None => {
-            let image = bench.terms.copy(from, t)?;
-            note(&mut bench.images, t, image)?;
-            Ok(image)
-        }
+        None => copied(bench, from, t),
     }
+}
+
+// The same of a term that isn't there yet.
+fn copied(bench: &mut Bench, from: &Terms, t: u32) -> Result<u32, NoMemory>
+    requires bench { IsBench from.now bench.old }
+    requires term { t < length from.now }
+    ensures within { IfOk result (λ r. r < length bench.new.terms) }
+    ensures tree { IfOk result (λ r. tree_at bench.new.terms r ≡ tree_at from.now t) }
+    ensures bench { OnOk result (IsBench from.now bench.new) }
+    ensures stays { OnOk result (Stays bench.old.terms bench.new.terms) }
+{
+    let image = bench.terms.copy(from, t)?;
+    note(&mut bench.images, t, image)?;
+    Ok(image)
 }
 
 // The numbers of these formulas on the bench.

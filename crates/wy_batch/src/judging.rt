@@ -1,5 +1,5 @@
 //! The verdict on one condition.
-ghost use Rattle.std.specs.Prelude.{nat_eq, ◌≡◌, ◌<◌, ◌+◌, ℕ, List, All, length, slice_get, IfOk, OnOk, Some};
+ghost use Rattle.std.specs.Prelude.{nat_eq, ◌≡◌, ◌<◌, ◌^◌, ℕ, List, All, length, IfOk, OnOk, Some};
 ghost use Rattle.std.specs.HashMap.{get};
 ghost use Rattle.wy_batch.specs.Bench.{IsBench};
 ghost use Rattle.wy_batch.specs.Index.{IsIndex};

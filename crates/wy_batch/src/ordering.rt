@@ -1,5 +1,5 @@
 //! Verdicts in the order of the conditions.
-ghost use Rattle.std.specs.Prelude.{◌≡◌, ℕ, List, All, None, Some, length, map, IfOk};
+ghost use Rattle.std.specs.Prelude.{◌≡◌, ◌<◌, ℕ, List, All, None, Some, length, map, slice_set, IfOk};
 ghost use Rattle.wy_batch.specs.Judged.{AreJudged, AreVerdictsAt};
 ghost use Rattle.wy_batch.specs.Ordering.{ArePlaced, IsFull};
 ghost use Rattle.wy_batch.specs.Working.{numbers_of};
@@ -37,9 +37,17 @@ fn placed(
 {
     let mut slots = no_verdicts(alloc, count)?;
     for (place, verdict) in verdicts {
-        slots[place as usize] = Some(verdict);
+        put(&mut slots, place as usize, verdict);
     }
     Ok(slots)
+}
+
+// Puts a verdict at its place.
+fn put(slots: &mut Vec<Option<Verdict>>, place: usize, verdict: Verdict)
+    requires { place < length slots.old.items }
+    ensures { slots.new.items ≡ slice_set slots.old.items place (Some verdict) }
+{
+    slots[place] = Some(verdict);
 }
 
 // So many places, of which none has a verdict.

@@ -1,11 +1,19 @@
-use Rattle.std.proofs.Common.{◌∙◌, map, ap}
+use Rattle.std.proofs.Common.{◌∙◌, length, map, ap}
 use Rattle.std.proofs.lemmas.List.{take_all}
 use Rattle.wy_batch.proofs.BenchLemmas.{below_more, none_below, stays_on, stays_same, trees_more}
 use Rattle.wy_term.specs.Nodes.{tree_at}
 use Rattle.wy_batch.proofs.bench.images.Goals as goal
 
 pub loop-formula-init : goal.loop-formula-init
-loop-formula-init c = ?
+loop-formula-init c =
+    let terms = c.args.bench.now.terms in
+    let none = c.in_ok-copies.ensures.items in
+    record {
+      within = none_below (length terms) c.in_ok-copies.copies.items none;
+      trees = ap (map (tree_at terms)) none;
+      bench = c.requires.bench;
+      stays = stays_same terms;
+    }
 
 pub image-requires : goal.image-requires
 image-requires c = record { bench = c.loop-formula.invariant.bench; term = c.requires.formulas c.loop-formula.formula-index 0 c.loop-formula-test.true }

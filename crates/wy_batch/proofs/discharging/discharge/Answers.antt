@@ -1,5 +1,4 @@
-use Rattle.std.proofs.Common.{IfOk, map}
-use Rattle.std.proofs.lemmas.Result.{IfOk-weaker}
+use Rattle.std.proofs.Common.{map}
 use Rattle.wy_batch.proofs.JudgedLemmas.{all_known, all_named, judged_count}
 use Rattle.wy_batch.proofs.OneLemmas.{one_list}
 use Rattle.wy_batch.specs.Judged.{conditions_in}

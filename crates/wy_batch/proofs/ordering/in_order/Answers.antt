@@ -1,4 +1,3 @@
-use Rattle.std.proofs.Common.{map, Some, List}
 use Rattle.std.proofs.lemmas.Result.{IfOk-weaker}
 use Rattle.wy_batch.proofs.OrderLemmas.{in_their_order}
 use Rattle.wy_batch.specs.Judged.{AreJudged}

@@ -1,7 +1,7 @@
-use Rattle.std.proofs.Common.{◌≡◌, ◌∙◌, ◌<◌, ℕ, List, All, length, set, Some, refl, sym, ap, subst, arith, rules}
+use Rattle.std.proofs.Common.{◌≡◌, ◌∙◌, ◌<◌, ℕ, All, length, Some, sym, ap, subst, arith}
 use Rattle.std.proofs.lemmas.List.{length-set}
 use Rattle.std.proofs.lemmas.List.Elements.{All-head, All-tail}
-use Rattle.wy_batch.proofs.OrderLemmas.{Numbered, all_below, is_full, left_next, none_placed, placed_next, rest_below, IsBelow}
+use Rattle.wy_batch.proofs.OrderLemmas.{Numbered, Slots, all_below, is_full, left_next, none_placed, placed_next, rest_below, IsBelow}
 use Rattle.wy_claim.specs.Claimed.{times}
 use Rattle.wy_batch.specs.Judged.{AreVerdictsAt, IsVerdictAt}
 use Rattle.wy_batch.specs.Working.{numbers_of}
@@ -20,14 +20,15 @@ loop-place-init c =
       placed = λ certs budget cs h. none_placed certs budget cs c.in_ok-slots.slots.items c.in_ok-slots.ensures.none;
     }
 
-pub index_mut-requires : goal.index_mut-requires
-index_mut-requires c =
+pub put-requires : goal.put-requires
+put-requires c =
     let below = rest_below c.args.count c.loop-place.place-iterator.rest.items _ c.in-Some.place c.in-Some.verdict c.in-Some.ensures.steps.0 c.loop-place.invariant.below in
-    omega (arith, below.0, c.loop-place.invariant.count, c.loop-place.slots.ok.0)
+    omega (arith, below.0, c.loop-place.invariant.count)
 
 pub loop-place-preserved : goal.loop-place-preserved
 loop-place-preserved c =
     let slots = c.loop-place.slots.items in
+    let new = c.put.new.slots.items in
     let p = c.in-Some.place in
     let v = c.in-Some.verdict in
     let steps = c.in-Some.ensures.steps.0 in
@@ -35,11 +36,11 @@ loop-place-preserved c =
     let below = rest_below c.args.count c.loop-place.place-iterator.rest.items _ p v steps invariant.below in
     let lt : p < length slots = omega (arith, below.0, invariant.count) in
     record {
-      count = length-set slots p (Some v) ∙ invariant.count;
+      count = ap (λ (xs : Slots). length xs) c.put.ensures ∙ length-set slots p (Some v) ∙ invariant.count;
       below = below.1;
-      left = left_next c.args.verdicts.items slots (set slots p (Some v)) c.loop-place.place-iterator.rest.items _ p v steps refl lt invariant.left;
+      left = left_next c.args.verdicts.items slots new c.loop-place.place-iterator.rest.items _ p v steps c.put.ensures lt invariant.left;
       rest = λ certs budget cs all. All-tail (λ (w : ℕ × Verdict). IsVerdictAt certs budget cs w.0 w.1) (p, v) _ (subst (AreVerdictsAt certs budget cs) steps (invariant.rest certs budget cs all));
-      placed = λ certs budget cs all. placed_next certs budget cs slots (set slots p (Some v)) p v refl lt
+      placed = λ certs budget cs all. placed_next certs budget cs slots new p v c.put.ensures lt
           (All-head (λ (w : ℕ × Verdict). IsVerdictAt certs budget cs w.0 w.1) (p, v) _ (subst (AreVerdictsAt certs budget cs) steps (invariant.rest certs budget cs all))) (invariant.placed certs budget cs all);
     }
 

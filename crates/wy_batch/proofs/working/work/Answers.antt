@@ -1,10 +1,10 @@
-use Rattle.std.proofs.Common.{◌≡◌, ◌∙◌, ◌<◌, ◌≤◌, ◌+◌, length, refl, sym, ap, rules, arith}
+use Rattle.std.proofs.Common.{◌≡◌, ◌∙◌, length, ap, rules, arith}
 use Rattle.std.proofs.lemmas.List.{length_push}
-use Rattle.wy_batch.proofs.WorkLemmas.{drew_nothing, drew_one, drew_to_the_end, seat_begins, seat_ends, seat_next, verdicts_begin, verdicts_next}
+use Rattle.wy_batch.proofs.WorkLemmas.{drew_nothing, drew_one_more, drew_to_the_end, seat_begins, seat_ends, seat_next, verdicts_begin, verdicts_next}
 use Rattle.wy_batch.specs.Judged.{conditions_in}
 use Rattle.wy_batch.specs.Working.{numbers_of}
 use Rattle.wy_cert.specs.Steps.{certificates_of}
-use Rattle.wy_claim.specs.Seats.{SeatView}
+use Rattle.wy_claim.specs.Seats.{SeatView, ended}
 use Rattle.wy_batch.proofs.working.work.Goals as goal
 
 pub loop-number-init : goal.loop-number-init
@@ -43,7 +43,9 @@ loop-number-smaller g c =
     omega (arith, drawn, c.in-Some.ensures.room, c.in-Some.ensures.within)
 
 pub returns-clause-drawn : goal.returns-clause-drawn
-returns-clause-drawn g c = seat_ends c.args.seat.now c.loop-number.seat c.draw.new.seat (numbers_of c.loop-number.verdicts.items) c.loop-number.invariant.seat c.in-None.ensures.none
+returns-clause-drawn g c =
+    let none : c.draw.new.seat ≡ ended c.loop-number.seat = search rules in
+    seat_ends c.args.seat.now c.loop-number.seat c.draw.new.seat (numbers_of c.loop-number.verdicts.items) c.loop-number.invariant.seat none
 
 pub returns-clause-verdicts : goal.returns-clause-verdicts
 returns-clause-verdicts g c = c.loop-number.invariant.verdicts
@@ -55,7 +57,7 @@ pub returns-in_err-places-clause-stay : goal.returns-in_err-places-clause-stay
 returns-in_err-places-clause-stay g c = drew_nothing c.args.seat.now
 
 pub returns-in_err-verdict-clause-stay : goal.returns-in_err-verdict-clause-stay
-returns-in_err-verdict-clause-stay g c = drew_one c.args.seat.now c.loop-number.seat c.draw.new.seat (numbers_of c.loop-number.verdicts.items) c.in-Some.number c.loop-number.invariant.seat c.in-Some.ensures.drawn
+returns-in_err-verdict-clause-stay g c = drew_one_more c.args.seat.now c.loop-number.seat c.draw.new.seat (numbers_of c.loop-number.verdicts.items) c.in-Some.number c.loop-number.invariant.seat c.in-Some.ensures.drawn
 
 pub returns-in_err-push-clause-stay : goal.returns-in_err-push-clause-stay
-returns-in_err-push-clause-stay g c = drew_one c.args.seat.now c.loop-number.seat c.draw.new.seat (numbers_of c.loop-number.verdicts.items) c.in-Some.number c.loop-number.invariant.seat c.in-Some.ensures.drawn
+returns-in_err-push-clause-stay g c = drew_one_more c.args.seat.now c.loop-number.seat c.draw.new.seat (numbers_of c.loop-number.verdicts.items) c.in-Some.number c.loop-number.invariant.seat c.in-Some.ensures.drawn

@@ -1,6 +1,4 @@
-use Rattle.std.proofs.Common.{◌≡◌, ◌-◌, ◌++◌, length, false}
-use Rattle.std.specs.HashMap.{get}
-use Rattle.std.specs.Prelude.{nat_eq}
+use Rattle.std.proofs.Common.{◌≡◌, ◌-◌, length}
 use Rattle.wy_batch.specs.Bench.{IsBench}
 use Rattle.wy_batch.specs.Judged.{conditions_in, AreVerdictsAt}
 use Rattle.wy_batch.specs.Working.{numbers_of, seat_drawing}
