@@ -64,5 +64,5 @@ pub use precondition::{MeetsEnd, meets};
 pub use routines::routine_at;
 pub use scope::{entry_of, put, variable, with_number};
 pub use stop::{Stop, check};
-pub use wy_items::NoMemory;
 pub use updates::{Slot, updated};
+pub use wy_items::NoMemory;

@@ -10,12 +10,10 @@ ghost use Rattle.wy_prove_leaves.specs.wy_search_spec.Splitting.{next_atom};
 ghost use Rattle.wy_prove_rounds.specs.wy_search.StatedSeen.{seen_spot, IsSpot};
 ghost use Rattle.wy_term.specs.Nodes.{tree_at};
 
-use wy_prove_explaining::{Branch, is_shut};
-use wy_prove_rounds::Present;
-use wy_prove_explaining::{Action, why_it_refutes, why_they_clash};
+use wy_prove_explaining::{Action, Branch, is_shut, why_it_refutes, why_they_clash};
 use wy_prove_rounds::{
-    Ending, Spot, classes, classes_clash, copied, ending_of_elimination, no_forms, terms_present,
-    with_atom, with_next_atom,
+    Ending, Present, Spot, classes, classes_clash, copied, ending_of_elimination, no_forms,
+    terms_present, with_atom, with_next_atom,
 };
 use wy_term::{NoMemory, Terms};
 

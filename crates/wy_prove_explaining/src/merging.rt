@@ -5,8 +5,8 @@ ghost use Rattle.wy_check_nodes.specs.Seen.{AreBelow, IsBranch};
 
 use std::alloc::Global;
 use wy_check_nodes::{Branch, nth_literal};
-use wy_search_bounds::{Present, in_one_class, place};
 use wy_items::at;
+use wy_search_bounds::{Present, in_one_class, place};
 use wy_term::{NoMemory, Node, Terms};
 use wy_term_subst::{parts_of, with_parts};
 

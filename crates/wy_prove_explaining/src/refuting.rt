@@ -11,8 +11,8 @@ use crate::sources::{Sources, sources_of};
 use crate::used::{Order, Used, one_used, used_literals};
 use std::collections::{BTreeSet, HashMap};
 use wy_check_nodes::Branch;
-use wy_search_bounds::Present;
 use wy_lin_eliminate::{Elim, LinStep, Steps, eliminate};
+use wy_search_bounds::Present;
 use wy_term::{NoMemory, Node, Terms};
 
 // The pairs of terms that the bounds of a literal compare.

@@ -10,9 +10,8 @@ use crate::sources::placed_form;
 use std::alloc::Global;
 use std::collections::BTreeSet;
 use wy_check_nodes::{Branch, nth_literal};
-use wy_search_bounds::Present;
 use wy_items::at;
-use wy_search_bounds::{Taking, takings};
+use wy_search_bounds::{Present, Taking, takings};
 use wy_term::{NoMemory, Terms};
 
 /// A bound `lower <= upper`, so many times.

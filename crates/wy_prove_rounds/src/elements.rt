@@ -14,8 +14,7 @@ ghost use Rattle.wy_prove_drafts.specs.wy_check_spec.valid.Membership.{fact_amon
 ghost use Rattle.wy_prove_rounds.specs.Moving.{AllOf, IsFit, Moves};
 
 use crate::stated::write_stated;
-use wy_prove_drafts::{Branch, pending_at};
-use wy_prove_drafts::Draft;
+use wy_prove_drafts::{Branch, Draft, pending_at};
 use wy_search::{is_element, read_count};
 use wy_term::{Cond, NoMemory, Node, Terms};
 

@@ -16,8 +16,7 @@ use crate::facts::write_facts;
 use crate::instances::write_instances;
 use crate::products::write_products;
 use crate::witnesses::write_witnesses;
-use wy_prove_drafts::{Branch, add_all};
-use wy_prove_drafts::Draft;
+use wy_prove_drafts::{Branch, Draft, add_all};
 use wy_search::{
     Spot, facts_of, index_terms, no_forms, products_of, with_instances, with_witnesses,
 };

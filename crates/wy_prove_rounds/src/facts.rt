@@ -14,8 +14,7 @@ ghost use Rattle.wy_prove_rounds.specs.Moving.{AllOf, IsFit, Moves};
 use crate::elements::{write_elements, write_pairs};
 use crate::kinds::write_kind_facts;
 use crate::plain::{write_lengths, write_plain};
-use wy_prove_drafts::Branch;
-use wy_prove_drafts::Draft;
+use wy_prove_drafts::{Branch, Draft};
 use wy_search::standing;
 use wy_term::{Cond, NoMemory, Terms};
 

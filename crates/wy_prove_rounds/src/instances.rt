@@ -10,9 +10,7 @@ ghost use Rattle.wy_term.specs.Nodes.{tree_at};
 ghost use Rattle.wy_prove_drafts.specs.wy_check_spec.valid.Ranges.{of_each};
 ghost use Rattle.wy_prove_rounds.specs.Moving.{AllOf, IsInstant, Moves};
 
-use wy_prove_drafts::{Branch, nth_literal};
-use wy_prove_drafts::of_each;
-use wy_prove_drafts::{Draft, literal_number, write_instance};
+use wy_prove_drafts::{Branch, Draft, literal_number, nth_literal, of_each, write_instance};
 use wy_term::{NoMemory, Terms};
 
 // What a literal states of a term, if it calls for it.

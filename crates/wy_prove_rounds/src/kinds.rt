@@ -11,8 +11,7 @@ ghost use Rattle.wy_prove_rounds.specs.About.{IsAbout, IsAboutBelow};
 ghost use Rattle.wy_prove_rounds.specs.Moving.{AllOf, IsFit, Moves};
 
 use crate::stated::write_stated;
-use wy_prove_drafts::{Branch, has_literal, pending_at};
-use wy_prove_drafts::Draft;
+use wy_prove_drafts::{Branch, Draft, has_literal, pending_at};
 use wy_term::{Cond, Kind, NoMemory, Node, Terms};
 
 /// What a fact on a term's kinds is about.

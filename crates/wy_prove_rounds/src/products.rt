@@ -18,8 +18,7 @@ ghost use Rattle.wy_prove_drafts.specs.wy_check_spec.valid.Literals.{literal_at}
 ghost use Rattle.wy_prove_drafts.specs.wy_check_spec.valid.Products.{as_product};
 ghost use Rattle.wy_prove_rounds.specs.Moving.{IsFit, Moves};
 
-use wy_prove_drafts::{Branch, literal_at, pending_at};
-use wy_prove_drafts::{Draft, literal_number, write_product};
+use wy_prove_drafts::{Branch, Draft, literal_at, literal_number, pending_at, write_product};
 use wy_search::{Bound, Bounds, KnownForms, bounds_of, standing};
 use wy_term::{NoMemory, Node, Terms};
 

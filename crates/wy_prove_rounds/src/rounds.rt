@@ -13,8 +13,7 @@ ghost use Rattle.wy_prove_rounds.specs.Moving.{Reaches};
 ghost use Rattle.wy_prove_rounds.specs.Rounds.{GoesBeside, IsBeside};
 
 use crate::expanding::{add_facts, add_instances, add_products, add_witnesses};
-use wy_prove_drafts::Branch;
-use wy_prove_drafts::Draft;
+use wy_prove_drafts::{Branch, Draft};
 use wy_search::Spot;
 use wy_term::{Cond, NoMemory, Terms};
 

@@ -11,9 +11,9 @@ ghost use Rattle.wy_term.specs.Nodes.{tree_at};
 ghost use Rattle.wy_prove_drafts.specs.wy_check_spec.valid.Ranges.{Range, of_one, witness, witnessed_at};
 ghost use Rattle.wy_prove_rounds.specs.Moving.{Follows, IsAlong};
 
-use wy_prove_drafts::{Branch, add_literal, has_literal, nth_literal};
-use wy_prove_drafts::of_one;
-use wy_prove_drafts::{Draft, literal_number, write_witness};
+use wy_prove_drafts::{
+    Branch, Draft, add_literal, has_literal, literal_number, nth_literal, of_one, write_witness,
+};
 use wy_search::{Spot, copied_branch};
 use wy_term::{NoMemory, Terms};
 

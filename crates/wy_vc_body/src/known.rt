@@ -15,8 +15,7 @@ use crate::paths::{Path, differ, first_term, most_vars, set_on_all};
 use std::alloc::Global;
 use wy_data::Name;
 use wy_term::NoMemory;
-use wy_vc_exprs::Maker;
-use wy_vc_exprs::{conjunction, equal, slot_at};
+use wy_vc_exprs::{Maker, conjunction, equal, slot_at};
 
 /// What is known behind paths of the variables that were looked at, and the new names, each by its variable and the number of its term.
 #[derive(Drop)]

@@ -12,8 +12,7 @@ use crate::large::is_large;
 use std::alloc::Global;
 use wy_data::Name;
 use wy_term::NoMemory;
-use wy_vc_exprs::{Maker, Walk, word_of};
-use wy_vc_exprs::{equal, val_name};
+use wy_vc_exprs::{Maker, Walk, equal, val_name, word_of};
 
 /// A new name of a variable's word.
 pub fn new_name(

@@ -10,8 +10,7 @@ ghost use Rattle.wy_vc_exprs.specs.Slots.{AreSlots, slots_of};
 use crate::here::{Here, is_set};
 use std::alloc::{AllocError, Global};
 use wy_term::Terms;
-use wy_vc_exprs::Walk;
-use wy_vc_exprs::slot_at;
+use wy_vc_exprs::{Walk, slot_at};
 
 /// A path that comes to a join: what it assumed since the paths parted, by the numbers of the formulas, and what is known of variables at
 /// its end.

@@ -25,8 +25,7 @@ use std::alloc::Global;
 use wy_core::{Expr, Step, StepKind};
 use wy_data::Name;
 use wy_term::{NoMemory, Terms};
-use wy_vc_exprs::{Walk, owe_index, variable, walked};
-use wy_vc_exprs::{field, index, updated, updated_field};
+use wy_vc_exprs::{Walk, field, index, owe_index, updated, updated_field, variable, walked};
 
 /// A part that a step of a path leads out of, by the number of its term: an element of an array at an index, or a field of a record.
 #[derive(Drop)]

@@ -6,8 +6,7 @@ ghost use Rattle.wy_search_spec.specs.Classes as search;
 ghost use Rattle.wy_search_spec.specs.Standing.{present};
 ghost use Rattle.wy_term.specs.Nodes.{tree_at};
 
-use wy_prove_drafts::Branch;
-use wy_prove_drafts::{Present, classes, terms_present};
+use wy_prove_drafts::{Branch, Present, classes, terms_present};
 use wy_term::{NoMemory, Terms};
 
 /// The terms present in a node, and a label of the class of each.

@@ -10,8 +10,7 @@ ghost use Rattle.wy_term.specs.Nodes.{tree_at};
 use crate::linked::clashing::close_at_once;
 use crate::linked::labelled::labelled_terms;
 use crate::linked::rounds::saturate;
-use wy_prove_drafts::Branch;
-use wy_prove_drafts::Draft;
+use wy_prove_drafts::{Branch, Draft};
 use wy_search_spec::least::classes_are_least;
 use wy_term::{NoMemory, Terms};
 

@@ -12,8 +12,7 @@ ghost use Rattle.wy_term.specs.Term.{Term};
 use crate::linked::chains::link;
 use crate::linked::labelled::Labelled;
 use crate::linked::thirds::link_thirds;
-use wy_prove_drafts::in_one_class;
-use wy_prove_drafts::Draft;
+use wy_prove_drafts::{Draft, in_one_class};
 use wy_term::{NoMemory, Terms};
 
 // The chains of two terms, and of these and a third one, if they are of one class. Says whether they added anything.

@@ -11,8 +11,7 @@ ghost use Rattle.wy_term.specs.Term.{Term};
 
 use crate::linked::chains::link;
 use crate::linked::labelled::Labelled;
-use wy_prove_drafts::in_one_class;
-use wy_prove_drafts::Draft;
+use wy_prove_drafts::{Draft, in_one_class};
 use wy_term::{NoMemory, Terms};
 
 // The chain of three terms, if the last two are of one class. Says whether it added anything.

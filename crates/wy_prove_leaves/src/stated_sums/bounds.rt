@@ -13,11 +13,9 @@ ghost use Rattle.wy_prove_leaves.specs.stated_sums.Replacing.{AreBounds, AreSumm
 ghost use Rattle.wy_term.specs.Nodes.{tree_at};
 ghost use Rattle.wy_term.specs.Term.{two, at_most};
 
-use wy_prove_drafts::Present;
 use wy_items::at;
 use wy_lin::Form;
-use wy_prove_drafts::{Draft, literal_number};
-use wy_prove_drafts::Taking;
+use wy_prove_drafts::{Draft, Present, Taking, literal_number};
 use wy_term::{NoMemory, Node, Terms};
 
 // The number of the literal `lower <= upper`, if it is there.

@@ -4,8 +4,7 @@ ghost use Rattle.wy_prove_drafts.specs.wy_check_nodes.Seen.{seen_branch, IsBranc
 ghost use Rattle.wy_prove_leaves.specs.stated_sums.Classed.{IsClassed};
 ghost use Rattle.wy_term.specs.Nodes.{tree_at};
 
-use wy_prove_drafts::Branch;
-use wy_prove_drafts::{Present, classes, terms_present};
+use wy_prove_drafts::{Branch, Present, classes, terms_present};
 use wy_term::{NoMemory, Terms};
 
 /// The terms present in a node, and the label of each one's class.

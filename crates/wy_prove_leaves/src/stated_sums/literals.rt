@@ -17,10 +17,10 @@ ghost use Rattle.wy_prove_drafts.specs.wy_check_spec.valid.Literals.{formula_of}
 use crate::stated_sums::classed::Classed;
 use crate::stated_sums::stated::{Stated, Turn};
 use crate::stated_sums::taking::take;
-use wy_prove_drafts::{Branch, form_at, nth_literal};
 use wy_lin::Form;
-use wy_prove_drafts::{Draft, literal_number};
-use wy_prove_drafts::{numbered, replace, takings};
+use wy_prove_drafts::{
+    Branch, Draft, form_at, literal_number, nth_literal, numbered, replace, takings,
+};
 use wy_term::{NoMemory, Terms};
 
 // The number of the literal with a place from 0.

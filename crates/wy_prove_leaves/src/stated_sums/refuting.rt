@@ -17,9 +17,8 @@ use crate::stated_sums::classed::classes_of;
 use crate::stated_sums::literals::take_literal;
 use crate::stated_sums::stated::{Stated, Turn, nothing_stated};
 use crate::stated_sums::steps::write_steps;
-use wy_prove_drafts::Branch;
 use wy_lin_eliminate::{Elim, eliminate};
-use wy_prove_drafts::Draft;
+use wy_prove_drafts::{Branch, Draft};
 use wy_term::{NoMemory, Terms};
 
 // Writes the steps by which elimination refutes the forms of a node, where all are stated, and says whether it did.

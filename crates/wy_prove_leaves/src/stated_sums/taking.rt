@@ -17,9 +17,7 @@ ghost use Rattle.wy_term.specs.Nodes.{tree_at};
 use crate::stated_sums::bounds::summands;
 use crate::stated_sums::cutting::state_divided;
 use crate::stated_sums::stated::{Stated, Turn};
-use wy_prove_drafts::Present;
-use wy_prove_drafts::{Draft, close_by_sum};
-use wy_prove_drafts::{Replaced, Taking};
+use wy_prove_drafts::{Draft, Present, Replaced, Taking, close_by_sum};
 use wy_term::{NoMemory, Terms};
 
 // The number of a literal with the form that is left of one by bounds: that literal, where there are none, or that of a cut.

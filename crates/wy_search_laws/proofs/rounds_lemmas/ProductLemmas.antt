@@ -42,7 +42,6 @@ record IsOf (all : List Literal) (f : Linear Term) (x : Affine) : Type 0 where
   affine_is : affine f form ≡ Some x
 
 module _ (all : List Literal) (f : Linear Term) where
-
   by_literal : (l : Literal) (x : Affine) → has_literal all l ≡ true → bound_by_literal f l ≡ Some x → IsOf all f x
   by_literal l x has e =
       let h = bind_some (form_of_literal (formula_of l)) (λ h. affine f h) x e in

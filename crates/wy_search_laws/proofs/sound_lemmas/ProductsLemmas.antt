@@ -67,7 +67,6 @@ record IsOf (all : List Literal) (f : Linear Term) (x : Affine) : Type 0 where
   affine_is : affine f form ≡ Some x
 
 module _ (all : List Literal) (f : Linear Term) where
-
   literal_is : (l : Literal) (x : Affine) → HasNumber all l → bound_by_literal f l ≡ Some x → IsOf all f x
   literal_is l x has e =
       let h = bind_some (form_of_literal (formula_of l)) (λ h. affine f h) x e in
