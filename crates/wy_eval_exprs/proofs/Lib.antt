@@ -24,4 +24,4 @@ mod TestLemmas
 -- what the laws of the semantics say of an end
 mod EndLemmas
 -- passed on to the crates above
-pub use Rattle.wy_core_laws.proofs.ExpressionKinds as ExpressionKinds
+pub use Rattle.wy_core_lemmas.proofs.ExpressionKinds as ExpressionKinds

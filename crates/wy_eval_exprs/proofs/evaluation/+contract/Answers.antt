@@ -24,8 +24,8 @@ use Rattle.wy_eval_exprs.specs.Operands.{items_of, parts_of}
 use Rattle.wy_eval_exprs.specs.Outcomes.{itself, meter_of, stopped}
 use Rattle.wy_eval_exprs.specs.Scopes.{scope, store_of}
 use Rattle.wy_eval_exprs.specs.Settings.{asked_by, data_in, items_by, named_by, parts_by, questions, setting, tests_at, turns_of}
-use Rattle.wy_core_laws.proofs.ExpressionKinds.{null_of, bool_of, int_of, var_of, call_of, neg_of, not_of, len_of, binary_of, is_of, index_of, field_of, list_of, repeat_of, record_of, quant_of}
-use Rattle.wy_core_laws.proofs.TypeKinds.{null_type, bool_type, int_type, any_type, void_type, record_type, array_type, union_type, inter_type, not_type, named_type}
+use Rattle.wy_core_lemmas.proofs.ExpressionKinds.{null_of, bool_of, int_of, var_of, call_of, neg_of, not_of, len_of, binary_of, is_of, index_of, field_of, list_of, repeat_of, record_of, quant_of}
+use Rattle.wy_core_lemmas.proofs.TypeKinds.{null_type, bool_type, int_type, any_type, void_type, record_type, array_type, union_type, inter_type, not_type, named_type}
 use Rattle.wy_eval_exprs.proofs.StepLemmas.{gives_as, spent, refused, then_gives, then_is, then_stops, after_spend, as_kind, eval_stops, array_is, record_is, no_memory, turned, after_turn, asked_stops, as_ty}
 use Rattle.wy_eval_exprs.proofs.TurnLemmas.{values_begin, values_turn, values_refused, values_end, fields_begin, fields_turn, fields_refused, fields_end, hold_refused, hold_faults, hold_end, items_turn, items_false, items_refused, items_end, parts_turn, parts_false, parts_refused, parts_short, parts_end, turns_turn, turns_early, turns_refused, turns_fault, TurnsLeft, tys_of}
 use Rattle.wy_eval_exprs.proofs.VisitLemmas.{array_there, clause_is, each_from, record_there, turn_is, turn_refused, clauses_forgiven, clauses_give, definition_nowhere, definition_there, early_said, early_silent, few, items_at, name_at, parts_at, test_is, types_counted, void_asked}
