@@ -1,7 +1,7 @@
 -- what operands are, and what they aren't
 pub mod OperandLemmas
 -- equal values, and places of fields
-mod SameLemmas
+pub mod SameLemmas
 mod PartLemmas
 -- numbers
 mod NumberLemmas
@@ -9,8 +9,6 @@ mod NumberLemmas
 mod IndexLemmas
 pub mod StoreLemmas
 pub mod LoopLemmas
--- what nodes stand for
-pub mod KindLemmas
 -- calls one behind the other
 pub mod StepLemmas
 -- turns of loops
@@ -25,3 +23,5 @@ pub mod BeginLemmas
 mod TestLemmas
 -- what the laws of the semantics say of an end
 mod EndLemmas
+-- passed on to the crates above
+pub use Rattle.wy_core_lemmas.proofs.ExpressionKinds as ExpressionKinds

@@ -63,5 +63,6 @@ pub use parts::{field_of, index_of, item_at, item_of, repeated};
 pub use precondition::{MeetsEnd, meets};
 pub use routines::routine_at;
 pub use scope::{entry_of, put, variable, with_number};
-pub use stop::{NoMemory, Stop, check};
+pub use stop::{Stop, check};
 pub use updates::{Slot, updated};
+pub use wy_items::NoMemory;

@@ -16,9 +16,10 @@ use crate::meter::Meter;
 use crate::precondition_clauses::first_not_true;
 use crate::routines::routine_at;
 use crate::scope::entry_of;
-use crate::stop::{NoMemory, Stop};
+use crate::stop::Stop;
 use std::alloc::Global;
 use wy_core::{Core, Routine};
+use wy_items::NoMemory;
 use wy_value::Value;
 
 /// What a test of a precondition finds.

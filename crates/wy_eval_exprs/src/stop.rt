@@ -6,16 +6,6 @@ ghost use Rattle.wy_eval_exprs.specs.Outcomes.{Gives, itself};
 use std::alloc::{AllocError, AllocFailed};
 use wy_term::CondKind;
 
-/// Want of memory.
-#[derive(Clone, Copy, Debug, PartialEq, Eq)]
-pub struct NoMemory;
-
-impl From<AllocError> for NoMemory {
-    fn from(_: AllocError) -> NoMemory {
-        NoMemory
-    }
-}
-
 /// Why an evaluation has no answer.
 #[derive(Drop)]
 pub enum Stop {

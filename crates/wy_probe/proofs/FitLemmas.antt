@@ -3,19 +3,8 @@ use Rattle.std.proofs.Common.{◌≡◌, ◌<◌, ◌≤◌, ℕ, zero, suc, ◌
 use Rattle.std.specs.Prelude.{nat_lt, slice_index_or}
 use Rattle.wy_lemmas.proofs.Choices.{by_truth, lt_true, both_parts}
 use Rattle.wy_lemmas.proofs.Options.{some_same}
+use Rattle.wy_probe.proofs.TupleLemmas.{left_false, right_false, some_length}
 use Rattle.wy_probe.specs.Tuples.{Fit, greatest_sum, has_empty, is_zero, least, led_by, next_alike, next_tuple, or_else, risen, sum_of, turned, zeros}
-
-right_false : (a b : Bool) → (a || b) ≡ false → b ≡ false
-right_false true b e = absurd cc
-right_false false b e = e
-
-left_false : (a b : Bool) → (a || b) ≡ false → a ≡ false
-left_false true b e = absurd cc
-left_false false b e = refl
-
-some_length : (n : ℕ) → is_zero n ≡ false → 0 < n
-some_length zero e = absurd cc
-some_length (suc n) e = omega arith
 
 pub least_fits : (ns : List ℕ) → has_empty ns ≡ false → (s : ℕ) → s ≤ greatest_sum ns → Fit ns (least ns s)
 least_fits [] full s le = tt

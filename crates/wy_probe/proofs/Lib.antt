@@ -3,15 +3,14 @@ mod TupleLemmas
 -- positions that lie in their lists
 mod FitLemmas
 -- values that are the same
-mod SameLemmas
 -- loops over lists of values
 mod ListLemmas
 -- the tables of declared types have the candidates
 mod TableLemmas
 -- what is made of the tables of parts
 mod CandidateLemmas
--- what a test and a run say of one tuple
-mod TrialLemmas
+-- the values at positions in lists
+mod PickLemmas
 -- tuples tried one after another
 mod TriedLemmas
 -- there is a finding, and one

@@ -1,18 +1,18 @@
 -- There is one finding.
-use Rattle.std.proofs.Common.{◌≡◌, ◌++◌, ℕ, zero, suc, List, [], ◌∷◌, length, Option, refl, sym, ap, ap₂, ◌∙◌, subst}
+use Rattle.std.proofs.Common.{◌≡◌, ◌++◌, ℕ, suc, List, [], ◌∷◌, length, Option, refl, sym, ap, ap₂, ◌∙◌, subst}
 use Rattle.wy_term.specs.declared.cond.CondKind.{CondKind}
 use Rattle.wy_value.specs.Datum.{Datum}
 use Rattle.wy_sem.specs.Meter.{Meter, Outcome, Fault}
-use Rattle.wy_probe.specs.Trials.{Counted, no_more, one_more, not_one, DoesFault, Faulted, Faultless, Finding, Finds, FindsOnce, FoundIn, IsMet, IsUndecided, NeverFaults, NoneFaults, NoneIn, Probe}
+use Rattle.wy_probe.specs.Trials.{Counted, no_more, one_more, not_one, DoesFault, Faulted, Faultless, FindsOnce, FoundIn, IsMet, IsUndecided, NoneFaults, NoneIn, Probe}
 
 -- ---- the counts
 
 counted_once : (P : List Datum → Type 0) (all : List (List Datum)) (m n : ℕ) → Counted P all m → Counted P all n → m ≡ n
 counted_once P [] _ _ no_more no_more = refl
 counted_once P (vs ∷ rest) (suc m) (suc n) (one_more is h) (one_more at g) = ap (λ k. suc k) (counted_once P rest m n h g)
-counted_once P (vs ∷ rest) (suc m) n (one_more is h) (not_one no g) = absurd (no is)
-counted_once P (vs ∷ rest) m (suc n) (not_one no h) (one_more is g) = absurd (no is)
-counted_once P (vs ∷ rest) m n (not_one no h) (not_one more g) = counted_once P rest m n h g
+counted_once P (vs ∷ rest) (suc m) n (one_more is h) (not_one never g) = absurd (never is)
+counted_once P (vs ∷ rest) m (suc n) (not_one never h) (one_more is g) = absurd (never is)
+counted_once P (vs ∷ rest) m n (not_one never h) (not_one more g) = counted_once P rest m n h g
 
 -- ---- the fault
 

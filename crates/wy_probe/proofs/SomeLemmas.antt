@@ -1,5 +1,5 @@
 -- There is a finding: of each tuple it can be told what it comes to.
-use Rattle.std.proofs.Common.{◌≡◌, ◌⊎◌, inl, inr, ◌≤◌, ◌<◌, ℕ, suc, List, [], ◌∷◌, length, Bool, true, false, Option, refl, ap, arith}
+use Rattle.std.proofs.Common.{◌≡◌, ◌⊎◌, inl, inr, ◌≤◌, ◌<◌, ℕ, suc, List, [], ◌∷◌, length, Bool, true, false, Option, None, refl, ap, arith}
 use Rattle.std.proofs.lemmas.Bool.{cases_eq, cases_lt}
 use Rattle.wy_term.specs.declared.cond.CondKind.{CondKind}
 use Rattle.wy_value.specs.Datum.{Datum}
@@ -18,8 +18,8 @@ Told P = P ⊎ (P → ⊥)
 
 both_told : (P Q : Type 0) → Told P → Told Q → Told (P × Q)
 both_told P Q (inl p) (inl q) = inl (p, q)
-both_told P Q (inl p) (inr no) = inr (λ h. no h.1)
-both_told P Q (inr no) t = inr (λ h. no h.0)
+both_told P Q (inl p) (inr never) = inr (λ h. never h.1)
+both_told P Q (inr never) t = inr (λ h. never h.0)
 
 truth_told : (b : Bool) → Told (b ≡ true)
 truth_told true = inl refl
@@ -44,9 +44,9 @@ routine_told types r vs = by (count_told (length vs) (length r.params)) (members
   where
     by : Told (length vs ≡ length r.params) → Told (AreMembers here types r.params vs) → Told (AreTrue (clause_setting here None types) r.preconditions (entry_of r vs)) → Told (RoutineMeets here types r vs)
     by (inl e) (inl m) (inl h) = inl (record { count = e; members = m; requires_hold = h })
-    by (inl e) (inl m) (inr no) = inr (λ g. no g.requires_hold)
-    by (inl e) (inr no) t = inr (λ g. no g.members)
-    by (inr no) t u = inr (λ g. no g.count)
+    by (inl e) (inl m) (inr never) = inr (λ g. never g.requires_hold)
+    by (inl e) (inr never) t = inr (λ g. never g.members)
+    by (inr never) t u = inr (λ g. never g.count)
 
 callee_told : (types : List (Alias ℕ)) (c : Callee ℕ) (vs : List Datum) → Told (CalleeMeets here types c vs)
 callee_told types (Declared r) vs = routine_told types r vs
@@ -75,22 +75,22 @@ module _ (p : Probe) (vs : List Datum) where
     where
       by : (cost here p.core p.entry vs ≤ turns) ⊎ (turns < cost here p.core p.entry vs) → Told (Meets here p.core p.entry vs) → Told (IsMet p vs)
       by (inl le) (inl meets) = inl (record { within = le; meets = meets })
-      by (inl le) (inr no) = inr (λ h. no h.meets)
+      by (inl le) (inr never) = inr (λ h. never h.meets)
       by (inr more) t = inr (λ h. let le = h.within in omega (arith, le, more))
 
   undecided_told : Told (IsUndecided p vs)
   undecided_told = by (within_or (cost here p.core p.entry vs)) met_told (within_or (contract_cost here p.core p.entry vs p.ticks))
     where
+      neither : cost here p.core p.entry vs ≤ turns → (IsMet p vs × (turns < contract_cost here p.core p.entry vs p.ticks) → ⊥) → IsUndecided p vs → ⊥
+      neither le never (inl more) = omega (arith, le, more)
+      neither le never (inr both) = never both
+
       by : (cost here p.core p.entry vs ≤ turns) ⊎ (turns < cost here p.core p.entry vs) → Told (IsMet p vs)
           → (contract_cost here p.core p.entry vs p.ticks ≤ turns) ⊎ (turns < contract_cost here p.core p.entry vs p.ticks) → Told (IsUndecided p vs)
       by (inr more) t u = inl (inl more)
       by (inl le) (inl met) (inr more) = inl (inr (met, more))
       by (inl le) (inl met) (inl few) = inr (neither le (λ h. let more = h.1 in omega (arith, few, more)))
-      by (inl le) (inr no) u = inr (neither le (λ h. no h.0))
-
-      neither : cost here p.core p.entry vs ≤ turns → (IsMet p vs × (turns < contract_cost here p.core p.entry vs p.ticks) → ⊥) → IsUndecided p vs → ⊥
-      neither le no (inl more) = omega (arith, le, more)
-      neither le no (inr both) = no both
+      by (inl le) (inr never) u = inr (neither le (λ h. never h.0))
 
   faults_told : ((kind : CondKind) × (at : ℕ) × DoesFault p vs kind at) ⊎ NeverFaults p vs
   faults_told = by met_told (within_or (contract_cost here p.core p.entry vs p.ticks)) (fault_told (evaluate here p.core p.entry vs p.ticks))
@@ -98,10 +98,10 @@ module _ (p : Probe) (vs : List Datum) where
       by : Told (IsMet p vs) → (contract_cost here p.core p.entry vs p.ticks ≤ turns) ⊎ (turns < contract_cost here p.core p.entry vs p.ticks)
           → ((kind : CondKind) × (at : ℕ) × (m : Meter) × (evaluate here p.core p.entry vs p.ticks ≡ Fault kind at m)) ⊎ ((kind : CondKind) (at : ℕ) (m : Meter) → evaluate here p.core p.entry vs p.ticks ≡ Fault kind at m → ⊥)
           → ((kind : CondKind) × (at : ℕ) × DoesFault p vs kind at) ⊎ NeverFaults p vs
-      by (inr no) t u = inr (λ kind at f. no f.met)
+      by (inr never) t u = inr (λ kind at f. never f.met)
       by (inl met) (inr more) u = inr (λ kind at f. let le = f.decided in omega (arith, le, more))
       by (inl met) (inl le) (inl f) = inl (f.0, f.1, record { met = met; decided = le; rest = f.2; faults = f.3 })
-      by (inl met) (inl le) (inr no) = inr (λ kind at f. no kind at f.rest f.faults)
+      by (inl met) (inl le) (inr never) = inr (λ kind at f. never kind at f.rest f.faults)
 
 -- ---- all of them
 
@@ -111,7 +111,7 @@ counted_some P told (vs ∷ rest) = by (told vs) (counted_some P told rest)
   where
     by : Told (P vs) → (n : ℕ) × Counted P rest n → (n : ℕ) × Counted P (vs ∷ rest) n
     by (inl is) h = (suc h.0, one_more is h.1)
-    by (inr no) h = (h.0, not_one no h.1)
+    by (inr never) h = (h.0, not_one never h.1)
 
 first_or_none : (p : Probe) (all : List (List Datum)) → ((number : ℕ) × (vs : List Datum) × (kind : CondKind) × (at : ℕ) × Finds p all (Faulted number vs kind at)) ⊎ NoneFaults p all
 first_or_none p [] = inr tt

@@ -1,5 +1,5 @@
 -- Tuples tried one after another.
-use Rattle.std.proofs.Common.{◌≡◌, ◌≤◌, ◌<◌, ◌+◌, ◌-◌, ◌++◌, ℕ, zero, suc, List, [], ◌∷◌, map, length, Bool, true, false, Option, Some, None, refl, sym, ap, ◌∙◌, subst, arith, append-nil}
+use Rattle.std.proofs.Common.{◌≡◌, ◌≤◌, ◌<◌, ◌-◌, ◌++◌, ℕ, zero, suc, List, [], ◌∷◌, map, length, Bool, true, false, Option, Some, None, refl, sym, ap, ◌∙◌, subst, arith, append-nil}
 use Rattle.wy_lemmas.proofs.Lists.{append_mid}
 use Rattle.wy_term.specs.declared.cond.CondKind.{CondKind}
 use Rattle.wy_value.specs.Datum.{Datum}
@@ -18,7 +18,7 @@ none_behind p (ws ∷ before) vs none never = (none.0, none_behind p before vs n
 
 one_counted : (P : List Datum → Type 0) (vs : List Datum) (b : Bool) → Tells b (P vs) → Counted P (vs ∷ []) (with_one b 0)
 one_counted P vs true is = one_more is no_more
-one_counted P vs false no = not_one no no_more
+one_counted P vs false never = not_one never no_more
 
 more_counted : (b : Bool) (n : ℕ) → with_one b (suc n) ≡ suc (with_one b n)
 more_counted true n = refl
@@ -27,7 +27,7 @@ more_counted false n = refl
 counted_behind : (P : List Datum → Type 0) (before : List (List Datum)) (n : ℕ) (vs : List Datum) (b : Bool) → Counted P before n → Tells b (P vs) → Counted P (before ++ vs ∷ []) (with_one b n)
 counted_behind P [] _ vs b no_more is = one_counted P vs b is
 counted_behind P (ws ∷ before) (suc n) vs b (one_more at rest) is = subst (Counted P (ws ∷ (before ++ vs ∷ []))) (sym (more_counted b n)) (one_more at (counted_behind P before n vs b rest is))
-counted_behind P (ws ∷ before) n vs b (not_one no rest) is = not_one no (counted_behind P before n vs b rest is)
+counted_behind P (ws ∷ before) n vs b (not_one never rest) is = not_one never (counted_behind P before n vs b rest is)
 
 length_behind : (before : List (List Datum)) (vs : List Datum) → length (before ++ vs ∷ []) ≡ suc (length before)
 length_behind [] vs = refl
@@ -36,7 +36,7 @@ length_behind (ws ∷ before) vs = ap (λ n. suc n) (length_behind before vs)
 counted_most : (P : List Datum → Type 0) (all : List (List Datum)) (n : ℕ) → Counted P all n → n ≤ length all
 counted_most P [] _ no_more = omega arith
 counted_most P (vs ∷ rest) (suc n) (one_more is counted) = let le = counted_most P rest n counted in omega (arith, le)
-counted_most P (vs ∷ rest) n (not_one no counted) = let le = counted_most P rest n counted in omega (arith, le)
+counted_most P (vs ∷ rest) n (not_one never counted) = let le = counted_most P rest n counted in omega (arith, le)
 
 -- ---- those that were tried
 
@@ -74,12 +74,6 @@ all_tried p all tried met undecided h =
       undecided_are = subst (λ l. Counted (IsUndecided p) l undecided) same h.undecided_are;
     }
 
-pub met_most : (p : Probe) (all rest : List (List Datum)) (tried met undecided : ℕ) → Tried p all rest tried met undecided → met ≤ tried
-met_most p all rest tried met undecided h = let le = counted_most (IsMet p) h.before met h.met_are in let n = h.tried_are in omega (arith, le, n)
-
-pub undecided_most : (p : Probe) (all rest : List (List Datum)) (tried met undecided : ℕ) → Tried p all rest tried met undecided → undecided ≤ tried
-undecided_most p all rest tried met undecided h = let le = counted_most (IsUndecided p) h.before undecided h.undecided_are in let n = h.tried_are in omega (arith, le, n)
-
 -- ---- the tuples of lists, from the next one on
 
 module _ (p : Probe) (lists : List (List Datum)) (n : ℕ) where
@@ -87,8 +81,23 @@ module _ (p : Probe) (lists : List (List Datum)) (n : ℕ) where
   abbrev pub Stands : ℕ → Option (List ℕ) → ℕ → ℕ → ℕ → Type 0
   Stands count next tried met undecided = Tried p (first_of lists n) (map (picked lists) (tuples_from (map length lists) count next)) tried met undecided
 
-  pub stands_first : Stands n (first_one (map length lists)) 0 0 0
-  stands_first = subst (λ l. Tried p (first_of lists n) (map (picked lists) l) 0 0 0) (sym (in_order (map length lists) n)) (none_tried p (first_of lists n))
+  pub moved : (count count' : ℕ) (next next' : Option (List ℕ)) (tried tried' met met' undecided undecided' : ℕ) → count' ≡ count → next' ≡ next → tried' ≡ tried → met' ≡ met → undecided' ≡ undecided
+      → Stands count next tried met undecided → Stands count' next' tried' met' undecided'
+  moved count count' next next' tried tried' met met' undecided undecided' c o t m u h =
+      subst (λ x. Stands x next' tried' met' undecided') (sym c) (subst (λ x. Stands count x tried' met' undecided') (sym o) (subst (λ x. Stands count next x met' undecided') (sym t)
+      (subst (λ x. Stands count next tried x undecided') (sym m) (subst (λ x. Stands count next tried met x) (sym u) h))))
+
+  pub stands_first : (next : Option (List ℕ)) → next ≡ first_one (map length lists) → Stands (n - 0) next 0 0 0
+  stands_first next is =
+      let begun : Stands n (first_one (map length lists)) 0 0 0 = subst (λ l. Tried p (first_of lists n) (map (picked lists) l) 0 0 0) (sym (in_order (map length lists) n)) (none_tried p (first_of lists n)) in
+      let all : n - 0 ≡ n = omega arith in
+      moved n (n - 0) _ next 0 0 0 0 0 0 all is refl refl refl begun
+
+  pub stands_met : (count : ℕ) (next : Option (List ℕ)) (tried met undecided : ℕ) → Stands count next tried met undecided → met ≤ tried
+  stands_met count next tried met undecided h = let le = counted_most (IsMet p) h.before met h.met_are in let k = h.tried_are in omega (arith, le, k)
+
+  pub stands_undecided : (count : ℕ) (next : Option (List ℕ)) (tried met undecided : ℕ) → Stands count next tried met undecided → undecided ≤ tried
+  stands_undecided count next tried met undecided h = let le = counted_most (IsUndecided p) h.before undecided h.undecided_are in let k = h.tried_are in omega (arith, le, k)
 
   module _ (number : ℕ) (tuple : List ℕ) (vs : List Datum) (tried met undecided : ℕ) (within : number < n) (same : vs ≡ picked lists tuple) (h : Stands (n - number) (Some tuple) tried met undecided) where
     abbrev rest : List (List Datum)

@@ -100,15 +100,15 @@ first_runs n ns zero p s below all near =
 first_runs n ns (suc count) p s below all near =
     block_runs n ns p s (with_first (with_sum ns) count (suc p) s) below (first_runs n ns count (suc p) s below (omega (arith, all)) (omega (arith, near))) (omega (arith, all)) near
 
-left_false : (a b : Bool) → (a || b) ≡ false → a ≡ false
+pub left_false : (a b : Bool) → (a || b) ≡ false → a ≡ false
 left_false true b e = absurd cc
 left_false false b e = refl
 
-right_false : (a b : Bool) → (a || b) ≡ false → b ≡ false
+pub right_false : (a b : Bool) → (a || b) ≡ false → b ≡ false
 right_false true b e = absurd cc
 right_false false b e = e
 
-some_length : (n : ℕ) → is_zero n ≡ false → 0 < n
+pub some_length : (n : ℕ) → is_zero n ≡ false → 0 < n
 some_length zero e = absurd cc
 some_length (suc n) e = omega arith
 

@@ -67,8 +67,9 @@ pub fn probe(
     ensures finds { IfOk result (λ end. FindsFirst (probe_of (core_of typed.now) entry ticks) n (seen_end end)) }
 {
     let core = typed.core();
-    let Some(routine) = routine_at(core.decls.as_slice(), entry) else {
-        unreachable!()
+    let routine = match routine_at(core.decls.as_slice(), entry) {
+        Some(routine) => routine,
+        None => unreachable!(),
     };
     let lists = lists_of(alloc, typed.names(), routine.params.as_slice())?;
     probe_lists(alloc, core, entry, lists.as_slice(), n, ticks)

@@ -74,7 +74,7 @@ fn ran(
             met: true,
             undecided: true,
         }),
-        _ => Ok(Trial::Passes {
+        EvalEnd::Done(_, _) | EvalEnd::More(_) => Ok(Trial::Passes {
             met: true,
             undecided: false,
         }),

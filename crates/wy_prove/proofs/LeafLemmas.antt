@@ -6,8 +6,8 @@ use Rattle.wy_term.specs.Condition.{Entry}
 use Rattle.wy_term.specs.Nodes.{Plain, tree_at}
 use Rattle.wy_prove_rounds.specs.wy_check_spec.judge.Node.{Node}
 use Rattle.wy_cert.specs.Steps.{Written}
-use Rattle.wy_cong.specs.declared.present.Present.{Present}
-use Rattle.wy_cong.specs.Seen.{terms_of}
+use Rattle.wy_prove_rounds.specs.wy_cong.declared.present.Present.{Present}
+use Rattle.wy_prove_rounds.specs.wy_cong.Seen.{terms_of}
 use Rattle.wy_prove_leaves.specs.wy_search_spec.Classes.{clashes}
 use Rattle.wy_prove_leaves.specs.wy_search_spec.Standing.{present}
 use Rattle.wy_prove_leaves.specs.wy_search_spec.Expansion.{Spot}

@@ -2,8 +2,8 @@
 use Rattle.std.proofs.Common.{◌≡◌, ◌∙◌, ℕ, Bool, true, false, ◌||◌, length, refl, sym, ap}
 use Rattle.std.specs.Prelude.{nat_lt}
 use Rattle.wy_term.specs.Term.{Term}
-use Rattle.wy_check_nodes.specs.declared.branch.Branch.{Branch}
-use Rattle.wy_check_nodes.specs.Seen.{seen_branch}
+use Rattle.wy_prove_explaining.specs.wy_check_nodes.declared.branch.Branch.{Branch}
+use Rattle.wy_prove_explaining.specs.wy_check_nodes.Seen.{seen_branch}
 use Rattle.wy_prove_leaves.specs.wy_search_spec.Bounds.{Ending, refuted, consistent, crowded, wide}
 use Rattle.wy_prove_leaves.specs.wy_search_spec.Tree as tree
 use Rattle.wy_prove_rounds.proofs.wy_search_proofs.TurnLemmas.{more_by_keys}

@@ -7,8 +7,8 @@ use Rattle.wy_term.specs.Condition.{Entry, Condition}
 use Rattle.wy_term.specs.Nodes.{Plain, tree_at}
 use Rattle.wy_facts.specs.Seen.{Stays}
 use Rattle.wy_prove_rounds.specs.wy_check_spec.judge.Node.{Node, added, denied_one}
-use Rattle.wy_check_nodes.specs.Seen.{seen_branch}
-use Rattle.wy_check_nodes.proofs.SumsBranchLemmas.{branch_stays, node_stays}
+use Rattle.wy_prove_explaining.specs.wy_check_nodes.Seen.{seen_branch}
+use Rattle.wy_prove_explaining.proofs.wy_check_nodes_proofs.SumsBranchLemmas.{branch_stays, node_stays}
 use Rattle.wy_cert.specs.Steps.{shut, split}
 use Rattle.wy_prove_rounds.specs.wy_check_spec.valid.Literals.{is_shut}
 use Rattle.wy_prove_rounds.specs.wy_check_spec.valid.Validity.{closed as no_node}

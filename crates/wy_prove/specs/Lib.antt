@@ -12,7 +12,7 @@ pub use Rattle.wy_prove_rounds.specs.wy_search.declared.verdict.OpenLeaf
 pub use Rattle.wy_prove_rounds.specs.wy_search.declared.verdict.Verdict as Searched
 -- passed on to the crates above
 pub use Rattle.wy_cert.specs as wy_cert
-pub use Rattle.wy_check_nodes.specs as wy_check_nodes
+pub use Rattle.wy_prove_explaining.specs.wy_check_nodes as wy_check_nodes
 pub use Rattle.wy_prove_writable.specs as wy_prove_writable
 pub use Rattle.wy_prove_leaves.specs.wy_search_laws as wy_search_laws
 pub use Rattle.wy_prove_leaves.specs.wy_search_spec as wy_search_spec

@@ -5,7 +5,7 @@ use Rattle.wy_term.specs.Condition.{Entry}
 use Rattle.wy_term.specs.Nodes.{Plain}
 use Rattle.wy_prove_rounds.specs.wy_check_spec.judge.Node.{Node}
 use Rattle.wy_prove_rounds.specs.wy_check_spec.valid.Literals.{is_shut}
-use Rattle.wy_cong.specs.Seen.{terms_of, IsPresent}
+use Rattle.wy_prove_rounds.specs.wy_cong.Seen.{terms_of, IsPresent}
 use Rattle.wy_prove_leaves.specs.wy_search_spec.Standing.{present}
 use Rattle.wy_prove_leaves.specs.wy_search_spec.Classes.{clashes}
 use Rattle.wy_prove_leaves.specs.wy_search_spec.Bounds.{Ending, refuted, consistent, crowded, wide, ending}

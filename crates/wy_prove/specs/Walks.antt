@@ -3,7 +3,7 @@ use Rattle.std.specs.Prelude.{◌≤◌, ℕ, List, [], ◌∷◌, map, Option, 
 use Rattle.wy_term.specs.Term.{Term}
 use Rattle.wy_term.specs.Condition.{Condition}
 use Rattle.wy_term.specs.Nodes.{Plain}
-use Rattle.wy_check_nodes.specs.Seen.{seen_branch, IsBranch}
+use Rattle.wy_prove_explaining.specs.wy_check_nodes.Seen.{seen_branch, IsBranch}
 use Rattle.wy_cert.specs.declared.step.Cert.{Cert}
 use Rattle.wy_cert.specs.Steps.{steps_of, NamesItsTerms}
 use Rattle.wy_prove_rounds.specs.wy_check_spec.valid.Validity.{IsValid}

@@ -2,11 +2,11 @@
 ghost use Rattle.std.specs.Prelude.{◌≡◌, List, IfOk, OnOk};
 ghost use Rattle.wy_prove.specs.Plans.{IsEnded};
 ghost use Rattle.wy_prove.specs.Turns.{IsLeafOver};
-ghost use Rattle.wy_cong.specs.Seen.{terms_of};
+ghost use Rattle.wy_prove_rounds.specs.wy_cong.Seen.{terms_of};
 ghost use Rattle.wy_prove_leaves.specs.wy_search_laws.rounds.Leaves.{IsLeaf};
 ghost use Rattle.wy_prove_rounds.specs.wy_prove_drafts.Draft.{IsDraft, seen_draft};
 ghost use Rattle.wy_facts.specs.Seen.{Stays};
-ghost use Rattle.wy_check_nodes.specs.Seen.{seen_branch, IsBranch};
+ghost use Rattle.wy_prove_explaining.specs.wy_check_nodes.Seen.{seen_branch, IsBranch};
 ghost use Rattle.wy_prove_leaves.specs.linked.Linked.{IsBase};
 ghost use Rattle.wy_prove_leaves.specs.wy_search_spec.Standing.{present};
 ghost use Rattle.wy_prove_rounds.specs.wy_search.StatedSeen.{seen_spot};
@@ -16,7 +16,7 @@ ghost use Rattle.wy_prove_rounds.specs.Rounds.{IsBeside};
 
 use crate::plans::follow;
 use crate::turning::{Leaf, Plan};
-use wy_check_nodes::Branch;
+use wy_prove_explaining::Branch;
 use wy_prove_leaves::linked::close_by_classes;
 use wy_prove_leaves::stated_sums::close_by_elimination;
 use wy_prove_rounds::Draft;

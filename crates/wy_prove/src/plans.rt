@@ -9,9 +9,8 @@ ghost use Rattle.wy_term.specs.Nodes.{tree_at};
 
 use crate::numbers::{numbered, one_or_two};
 use std::alloc::Global;
-use wy_check_nodes::form_of_sum;
-use wy_lin_eliminate::common;
-use wy_prove_explaining::{Action, Named};
+use wy_prove_explaining::{Action, Named, form_of_sum};
+use wy_prove_leaves::common;
 use wy_prove_rounds::{
     Draft, close_by_clash, close_by_shut, close_by_sum, literal_number, write_chain, write_cut,
 };

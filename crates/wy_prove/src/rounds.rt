@@ -10,7 +10,7 @@ ghost use Rattle.wy_term.specs.Condition.{condition_of};
 ghost use Rattle.wy_term.specs.Nodes.{tree_at};
 ghost use Rattle.wy_prove_rounds.specs.Rounds.{IsBeside};
 
-use wy_check_nodes::Branch;
+use wy_prove_explaining::Branch;
 use wy_prove_rounds::{Draft, Spot, write_round};
 use wy_term::{Cond, NoMemory, Terms};
 

@@ -2,20 +2,18 @@
 ghost use Rattle.std.specs.Prelude.{◌≡◌, ◌<◌, Some, IfOk, IfSome, length};
 ghost use Rattle.wy_prove_rounds.specs.wy_search_bounds.Seen.{seen_ending};
 ghost use Rattle.wy_prove.specs.Turns.{is_refutation, IsClosing, IsJudged, IsNext, IsOpenNode, IsPlanOver};
-ghost use Rattle.wy_cong.specs.Seen.{terms_of, IsPresent};
+ghost use Rattle.wy_prove_rounds.specs.wy_cong.Seen.{terms_of, IsPresent};
 ghost use Rattle.wy_facts.specs.Seen.{Stays};
-ghost use Rattle.wy_check_nodes.specs.Seen.{seen_branch, IsBranch};
+ghost use Rattle.wy_prove_explaining.specs.wy_check_nodes.Seen.{seen_branch, IsBranch};
 ghost use Rattle.wy_prove_leaves.specs.wy_search_spec.Bounds.{ending_by, replaced_forms};
 ghost use Rattle.wy_prove_leaves.specs.wy_search_spec.Splitting.{next_atom};
 ghost use Rattle.wy_prove_rounds.specs.wy_search.StatedSeen.{seen_spot, IsSpot};
 ghost use Rattle.wy_term.specs.Nodes.{tree_at};
 
-use wy_check_nodes::{Branch, is_shut};
-use wy_cong::Present;
-use wy_prove_explaining::{Action, why_it_refutes, why_they_clash};
+use wy_prove_explaining::{Action, Branch, is_shut, why_it_refutes, why_they_clash};
 use wy_prove_rounds::{
-    Ending, Spot, classes, classes_clash, copied, ending_of_elimination, no_forms, terms_present,
-    with_atom, with_next_atom,
+    Ending, Present, Spot, classes, classes_clash, copied, ending_of_elimination, no_forms,
+    terms_present, with_atom, with_next_atom,
 };
 use wy_term::{NoMemory, Terms};
 

@@ -9,7 +9,7 @@ ghost use Rattle.wy_prove_rounds.specs.wy_prove_drafts.Draft.{IsDraft, seen_draf
 ghost use Rattle.wy_facts.specs.Membership.{AreTypesBelow};
 ghost use Rattle.wy_facts.specs.Seen.{Stays};
 ghost use Rattle.wy_prove_rounds.specs.wy_check_spec.judge.Node.{added, denied_one};
-ghost use Rattle.wy_check_nodes.specs.Seen.{seen_branch, IsBranch};
+ghost use Rattle.wy_prove_explaining.specs.wy_check_nodes.Seen.{seen_branch, IsBranch};
 ghost use Rattle.wy_prove_leaves.specs.wy_search_spec.Expansion as search;
 ghost use Rattle.wy_prove_leaves.specs.wy_search_spec.Tree.{Verdict};
 ghost use Rattle.wy_prove_rounds.specs.wy_search.StatedSeen.{IsSpot};
@@ -22,7 +22,7 @@ use crate::rounds::round;
 use crate::turning::{Leaf, Next, what_follows};
 use std::collections::VecDeque;
 use wy_cert::Cert;
-use wy_check_nodes::{Branch, add};
+use wy_prove_explaining::{Branch, add};
 use wy_prove_rounds::{
     Draft, Spot, close_by_shut, copied_branch, first_draft, first_spot, write_split,
 };

@@ -8,7 +8,7 @@ use Rattle.wy_search_laws.specs.wy_check_spec.judge.Node.{Node}
 use Rattle.wy_cert.specs.Steps.{Written, sum_of}
 use Rattle.wy_search_laws.specs.wy_check_spec.valid.Sums.{summed, is_refuting}
 use Rattle.wy_search_laws.specs.wy_check_spec.valid.Validity.{closed, after}
-use Rattle.wy_check.proofs.StepLemmas.{sum_led}
+use Rattle.wy_search_laws.proofs.wy_check_proofs.StepLemmas.{sum_led}
 use Rattle.wy_prove_drafts.specs.declared.draft.Draft.{Draft}
 use Rattle.wy_prove_drafts.specs.Progress.{Progress, Closes}
 use Rattle.wy_prove_drafts.specs.Adding.{with_step}

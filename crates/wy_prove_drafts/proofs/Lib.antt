@@ -14,3 +14,4 @@ pub use Rattle.wy_check_nodes.proofs as wy_check_nodes_proofs
 pub use Rattle.wy_search_laws.proofs.wy_search_bounds_proofs as wy_search_bounds_proofs
 pub use Rattle.wy_search_laws.proofs as wy_search_laws_proofs
 pub use Rattle.wy_search_laws.proofs.wy_search_spec_proofs as wy_search_spec_proofs
+pub use Rattle.wy_check_splits.proofs as wy_check_splits_proofs

@@ -17,7 +17,7 @@ use Rattle.wy_search_laws.specs.wy_check_spec.valid.Membership.{fact_among}
 use Rattle.wy_search_laws.specs.wy_check_spec.valid.Products.{product_stated}
 use Rattle.wy_search_laws.specs.wy_check_spec.valid.Validity.{left_with, left_with_one, chain_stated, after}
 use Rattle.wy_search_laws.specs.wy_check_laws.sound.Sortedness.{IsSortedStep}
-use Rattle.wy_check.proofs.StepLemmas.{chain_led, cut_led, inst_led, wit_led, fact_led, prod_led}
+use Rattle.wy_search_laws.proofs.wy_check_proofs.StepLemmas.{chain_led, cut_led, inst_led, wit_led, fact_led, prod_led}
 use Rattle.wy_prove_drafts.specs.declared.draft.Draft.{Draft}
 use Rattle.wy_prove_drafts.specs.Progress.{Progress, Goes, Writes}
 use Rattle.wy_prove_drafts.specs.Adding.{Adds, States}

@@ -11,3 +11,4 @@ pub use Rattle.wy_search_laws.specs.wy_cong as wy_cong
 pub use Rattle.wy_search_laws.specs.wy_search_bounds as wy_search_bounds
 pub use Rattle.wy_search_laws.specs as wy_search_laws
 pub use Rattle.wy_search_laws.specs.wy_search_spec as wy_search_spec
+pub use Rattle.wy_check_splits.specs as wy_check_splits

@@ -21,3 +21,11 @@ pub use numbers::literal_number;
 pub use stating::{
     write_chain, write_cut, write_fact, write_instance, write_product, write_witness,
 };
+pub use wy_check_nodes::{
+    Branch, add_all, add_literal, cut_stated, form_at, form_of_sum, has_literal, literal_at,
+    nth_literal, pending_at,
+};
+pub use wy_check_splits::{of_each, of_one};
+pub use wy_search_laws::{
+    Present, Replaced, Taking, classes, in_one_class, numbered, replace, takings, terms_present,
+};

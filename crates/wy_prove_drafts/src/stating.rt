@@ -13,10 +13,10 @@ ghost use Rattle.wy_search_laws.specs.wy_check_spec.valid.Membership.{fact_among
 use crate::draft::Draft;
 use crate::putting::{state_all, state_one};
 use wy_cert::Step;
-use wy_check::product_stated;
 use wy_check_nodes::cut_stated;
 use wy_check_splits::{chain_stated, instance_stated, witness_stated};
 use wy_facts::fact;
+use wy_search_laws::product_stated;
 use wy_term::{Cond, NoMemory, Terms};
 
 /// Writes `chain` of terms, where neighbours are joined or alike, unless its ends' equality adds nothing to the node. Says whether the

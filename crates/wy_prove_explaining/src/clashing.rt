@@ -1,6 +1,6 @@
 //! What clashes in the classes of a node.
 ghost use Rattle.std.specs.Prelude.{◌<◌, length};
-ghost use Rattle.wy_cong.specs.Seen.{IsPresent};
+ghost use Rattle.wy_search_bounds.specs.wy_cong.Seen.{IsPresent};
 ghost use Rattle.wy_facts.specs.Seen.{Stays};
 ghost use Rattle.wy_check_nodes.specs.Seen.{IsBranch};
 
@@ -9,7 +9,7 @@ use crate::explaining::{Pair, explain};
 use crate::merging::merges;
 use wy_check_nodes::{Branch, nth_literal};
 use wy_check_splits::{are_apart, constant_at, copied_kind, kind_given, same_kind};
-use wy_cong::{Present, in_one_class};
+use wy_search_bounds::{Present, in_one_class};
 use wy_term::{Kind, NoMemory, Node, Terms};
 
 // A term of a kind, by a literal, or as it is written out.

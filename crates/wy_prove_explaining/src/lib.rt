@@ -20,3 +20,4 @@ mod used;
 pub use action::{Action, Named};
 pub use clashing::why_they_clash;
 pub use refuting::why_it_refutes;
+pub use wy_check_nodes::{Branch, add, form_of_sum, is_shut};

@@ -1,12 +1,12 @@
 //! The classes of a node's congruence, joined again one after the other.
 ghost use Rattle.std.specs.Prelude.{◌≡◌, ◌<◌, length};
-ghost use Rattle.wy_cong.specs.Seen.{IsPresent};
+ghost use Rattle.wy_search_bounds.specs.wy_cong.Seen.{IsPresent};
 ghost use Rattle.wy_check_nodes.specs.Seen.{AreBelow, IsBranch};
 
 use std::alloc::Global;
 use wy_check_nodes::{Branch, nth_literal};
-use wy_cong::{Present, in_one_class, place};
 use wy_items::at;
+use wy_search_bounds::{Present, in_one_class, place};
 use wy_term::{NoMemory, Node, Terms};
 use wy_term_subst::{parts_of, with_parts};
 

@@ -1,5 +1,5 @@
 //! The steps of an elimination that refutes a node, over the node's literals.
-ghost use Rattle.wy_cong.specs.Seen.{IsPresent};
+ghost use Rattle.wy_search_bounds.specs.wy_cong.Seen.{IsPresent};
 ghost use Rattle.wy_facts.specs.Seen.{Stays};
 ghost use Rattle.wy_check_nodes.specs.Seen.{IsBranch};
 
@@ -11,8 +11,8 @@ use crate::sources::{Sources, sources_of};
 use crate::used::{Order, Used, one_used, used_literals};
 use std::collections::{BTreeSet, HashMap};
 use wy_check_nodes::Branch;
-use wy_cong::Present;
 use wy_lin_eliminate::{Elim, LinStep, Steps, eliminate};
+use wy_search_bounds::Present;
 use wy_term::{NoMemory, Node, Terms};
 
 // The pairs of terms that the bounds of a literal compare.

@@ -1,12 +1,11 @@
 //! The forms that elimination is given.
-ghost use Rattle.wy_cong.specs.Seen.{IsPresent};
+ghost use Rattle.wy_search_bounds.specs.wy_cong.Seen.{IsPresent};
 ghost use Rattle.wy_facts.specs.Seen.{Stays};
 ghost use Rattle.wy_check_nodes.specs.Seen.{IsBranch};
 
 use wy_check_nodes::{Branch, form_at};
-use wy_cong::Present;
 use wy_lin::Form;
-use wy_search_bounds::{Replaced, numbered, replace};
+use wy_search_bounds::{Present, Replaced, numbered, replace};
 use wy_term::{NoMemory, Terms};
 
 /// The forms that elimination is given, each with the place of its literal; the place of a literal that refutes by itself, and

@@ -1,6 +1,6 @@
 //! The literals whose forms an elimination needs.
 ghost use Rattle.std.specs.Prelude.{◌<◌, length};
-ghost use Rattle.wy_cong.specs.Seen.{IsPresent};
+ghost use Rattle.wy_search_bounds.specs.wy_cong.Seen.{IsPresent};
 ghost use Rattle.wy_facts.specs.Seen.{Stays};
 ghost use Rattle.wy_check_nodes.specs.Seen.{IsBranch};
 
@@ -10,9 +10,8 @@ use crate::sources::placed_form;
 use std::alloc::Global;
 use std::collections::BTreeSet;
 use wy_check_nodes::{Branch, nth_literal};
-use wy_cong::Present;
 use wy_items::at;
-use wy_search_bounds::{Taking, takings};
+use wy_search_bounds::{Present, Taking, takings};
 use wy_term::{NoMemory, Terms};
 
 /// A bound `lower <= upper`, so many times.

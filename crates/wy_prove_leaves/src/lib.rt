@@ -5,3 +5,5 @@
 
 pub mod linked;
 pub mod stated_sums;
+
+pub use wy_lin_eliminate::common;

@@ -11,10 +11,6 @@ use Rattle.wy_prove_drafts.specs.Progress.{Progress}
 use Rattle.wy_prove_rounds.specs.Moving.{Moves}
 use Rattle.wy_prove_rounds.proofs.MovingLemmas.{moves_as, moves_on}
 
-pub measured_sorted : (t : Term) → IsSorted t → AreSortedTerms (measured t)
-measured_sorted (Of term.len (part v no_parts)) h = (h.1, tt)
-measured_sorted t h = tt
-
 -- one schema more
 pub schemas_more : (types : List Entry) (node : Node) (ts : List Term) (k n : ℕ) (done : Node) → with_schemas types node ts n (suc k) done ≡ with_facts_by types node ts (n + k) (with_schemas types node ts n k done)
 schemas_more types node ts zero n done = let is : n ≡ n + 0 = omega arith in ap (λ (m : ℕ). with_facts_by types node ts m done) is

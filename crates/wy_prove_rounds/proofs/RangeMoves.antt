@@ -2,7 +2,7 @@
 use Rattle.std.proofs.Common.{◌≡◌, ◌∙◌, ◌+◌, ℕ, List, [], ◌∷◌, ◌++◌, map, take, Bool, true, false, cond, Option, Some, None, refl, sym, ap, subst}
 use Rattle.std.specs.Prelude.{slice_get, is_some, option_map}
 use Rattle.wy_facts.specs.Schema.{only_if}
-use Rattle.wy_check_nodes.specs.Seen.{seen_literal}
+use Rattle.wy_prove_drafts.specs.wy_check_nodes.Seen.{seen_literal}
 use Rattle.wy_lemmas.proofs.Choices.{true_false}
 use Rattle.wy_search.proofs.SpotLemmas.{made_spot}
 use Rattle.wy_search.proofs.wy_search_facts_proofs.SpotLemmas.{witness_had}

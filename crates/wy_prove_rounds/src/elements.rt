@@ -4,7 +4,7 @@ ghost use Rattle.wy_prove_drafts.specs.Draft.{IsDraft, seen_draft};
 ghost use Rattle.wy_facts.specs.Membership.{AreTypesBelow};
 ghost use Rattle.wy_facts.specs.Seen.{Stays};
 ghost use Rattle.wy_prove_drafts.specs.wy_check_spec.judge.Node.{Node as TreeNode};
-ghost use Rattle.wy_check_nodes.specs.Seen.{IsBranch, seen_formula};
+ghost use Rattle.wy_prove_drafts.specs.wy_check_nodes.Seen.{IsBranch, seen_formula};
 ghost use Rattle.wy_prove_drafts.specs.wy_search_spec.Expansion as search;
 ghost use Rattle.wy_search.specs.wy_search_facts.Adding.{with_numbered};
 ghost use Rattle.wy_term.specs.Condition.{condition_of};
@@ -14,8 +14,7 @@ ghost use Rattle.wy_prove_drafts.specs.wy_check_spec.valid.Membership.{fact_amon
 ghost use Rattle.wy_prove_rounds.specs.Moving.{AllOf, IsFit, Moves};
 
 use crate::stated::write_stated;
-use wy_check_nodes::{Branch, pending_at};
-use wy_prove_drafts::Draft;
+use wy_prove_drafts::{Branch, Draft, pending_at};
 use wy_search::{is_element, read_count};
 use wy_term::{Cond, NoMemory, Node, Terms};
 

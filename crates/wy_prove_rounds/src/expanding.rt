@@ -3,7 +3,7 @@ ghost use Rattle.std.specs.Prelude.{◌≡◌, List, IfOk, OnOk, length, map};
 ghost use Rattle.wy_prove_drafts.specs.Draft.{IsDraft, seen_draft};
 ghost use Rattle.wy_facts.specs.Membership.{AreTypesBelow};
 ghost use Rattle.wy_facts.specs.Seen.{AreBelow, Stays};
-ghost use Rattle.wy_check_nodes.specs.Seen.{IsBranch, seen_branch};
+ghost use Rattle.wy_prove_drafts.specs.wy_check_nodes.Seen.{IsBranch, seen_branch};
 ghost use Rattle.wy_prove_drafts.specs.wy_search_spec.Expansion as search;
 ghost use Rattle.wy_search.specs.StatedSeen.{IsSpot, seen_spot};
 ghost use Rattle.wy_search.specs.Turns.{begun, index_terms_in};
@@ -16,8 +16,7 @@ use crate::facts::write_facts;
 use crate::instances::write_instances;
 use crate::products::write_products;
 use crate::witnesses::write_witnesses;
-use wy_check_nodes::{Branch, add_all};
-use wy_prove_drafts::Draft;
+use wy_prove_drafts::{Branch, Draft, add_all};
 use wy_search::{
     Spot, facts_of, index_terms, no_forms, products_of, with_instances, with_witnesses,
 };

@@ -4,7 +4,7 @@ ghost use Rattle.wy_prove_drafts.specs.wy_search_laws.rounds.Leaves.{IsFoldedThr
 ghost use Rattle.wy_prove_drafts.specs.Draft.{IsDraft, seen_draft};
 ghost use Rattle.wy_facts.specs.Membership.{AreTypesBelow};
 ghost use Rattle.wy_facts.specs.Seen.{Stays};
-ghost use Rattle.wy_check_nodes.specs.Seen.{IsBranch, seen_branch, seen_formula};
+ghost use Rattle.wy_prove_drafts.specs.wy_check_nodes.Seen.{IsBranch, seen_branch, seen_formula};
 ghost use Rattle.wy_prove_drafts.specs.wy_search_spec.Expansion as search;
 ghost use Rattle.wy_prove_drafts.specs.wy_search_spec.Standing.{standing};
 ghost use Rattle.wy_term.specs.Condition.{condition_of};
@@ -14,8 +14,7 @@ ghost use Rattle.wy_prove_rounds.specs.Moving.{AllOf, IsFit, Moves};
 use crate::elements::{write_elements, write_pairs};
 use crate::kinds::write_kind_facts;
 use crate::plain::{write_lengths, write_plain};
-use wy_check_nodes::Branch;
-use wy_prove_drafts::Draft;
+use wy_prove_drafts::{Branch, Draft};
 use wy_search::standing;
 use wy_term::{Cond, NoMemory, Terms};
 

@@ -3,16 +3,14 @@ ghost use Rattle.std.specs.Prelude.{◌≡◌, ◌<◌, [], ◌∷◌, List, tru
 ghost use Rattle.wy_prove_drafts.specs.Draft.{IsDraft, seen_draft};
 ghost use Rattle.wy_facts.specs.Seen.{AreBelow, Stays};
 ghost use Rattle.wy_prove_drafts.specs.wy_check_spec.judge.Node.{Node, has_literal};
-ghost use Rattle.wy_check_nodes.specs.Seen.{IsBranch, seen_branch, seen_literal};
+ghost use Rattle.wy_prove_drafts.specs.wy_check_nodes.Seen.{IsBranch, seen_branch, seen_literal};
 ghost use Rattle.wy_prove_drafts.specs.wy_search_spec.Expansion as search;
 ghost use Rattle.wy_term.specs.Condition.{Entry};
 ghost use Rattle.wy_term.specs.Nodes.{tree_at};
 ghost use Rattle.wy_prove_drafts.specs.wy_check_spec.valid.Ranges.{of_each};
 ghost use Rattle.wy_prove_rounds.specs.Moving.{AllOf, IsInstant, Moves};
 
-use wy_check_nodes::{Branch, nth_literal};
-use wy_check_splits::of_each;
-use wy_prove_drafts::{Draft, literal_number, write_instance};
+use wy_prove_drafts::{Branch, Draft, literal_number, nth_literal, of_each, write_instance};
 use wy_term::{NoMemory, Terms};
 
 // What a literal states of a term, if it calls for it.

@@ -3,7 +3,7 @@ ghost use Rattle.std.specs.Prelude.{◌<◌, IfSome, OnOk, length, map};
 ghost use Rattle.wy_prove_drafts.specs.Draft.{IsDraft, seen_draft};
 ghost use Rattle.wy_facts.specs.Membership.{AreTypesBelow};
 ghost use Rattle.wy_facts.specs.Seen.{Stays};
-ghost use Rattle.wy_check_nodes.specs.Seen.{IsBranch, seen_branch, seen_formula};
+ghost use Rattle.wy_prove_drafts.specs.wy_check_nodes.Seen.{IsBranch, seen_branch, seen_formula};
 ghost use Rattle.wy_prove_drafts.specs.wy_search_spec.Expansion as search;
 ghost use Rattle.wy_term.specs.Condition.{condition_of};
 ghost use Rattle.wy_term.specs.Nodes.{tree_at};
@@ -11,8 +11,7 @@ ghost use Rattle.wy_prove_rounds.specs.About.{IsAbout, IsAboutBelow};
 ghost use Rattle.wy_prove_rounds.specs.Moving.{AllOf, IsFit, Moves};
 
 use crate::stated::write_stated;
-use wy_check_nodes::{Branch, has_literal, pending_at};
-use wy_prove_drafts::Draft;
+use wy_prove_drafts::{Branch, Draft, has_literal, pending_at};
 use wy_term::{Cond, Kind, NoMemory, Node, Terms};
 
 /// What a fact on a term's kinds is about.

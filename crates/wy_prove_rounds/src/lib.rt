@@ -18,8 +18,8 @@ mod witnesses;
 
 pub use rounds::write_round;
 pub use wy_prove_drafts::{
-    Draft, close_by_clash, close_by_shut, close_by_sum, first_draft, literal_number, write_chain,
-    write_cut, write_fact, write_instance, write_product, write_split, write_witness,
+    Draft, Present, close_by_clash, close_by_shut, close_by_sum, first_draft, literal_number,
+    write_chain, write_cut, write_fact, write_instance, write_product, write_split, write_witness,
 };
 pub use wy_search::{
     Bound, Bounds, Carried, Ending, KnownForms, OpenLeaf, Spot, Verdict, Why, bounds_of, classes,

@@ -6,7 +6,7 @@ ghost use Rattle.wy_prove_drafts.specs.wy_search_laws.rounds.Leaves.{IsFoldedThr
 ghost use Rattle.wy_prove_drafts.specs.Draft.{IsDraft, seen_draft};
 ghost use Rattle.wy_facts.specs.Seen.{Stays};
 ghost use Rattle.wy_prove_drafts.specs.wy_check_spec.judge.Node.{Literal, has_literal};
-ghost use Rattle.wy_check_nodes.specs.Seen.{IsBranch, seen_branch, seen_formula};
+ghost use Rattle.wy_prove_drafts.specs.wy_check_nodes.Seen.{IsBranch, seen_branch, seen_formula};
 ghost use Rattle.wy_lin.specs.Linear.{Linear};
 ghost use Rattle.wy_lin.specs.TermForm.{form_of};
 ghost use Rattle.wy_prove_drafts.specs.wy_search_spec.Expansion as search;
@@ -18,8 +18,7 @@ ghost use Rattle.wy_prove_drafts.specs.wy_check_spec.valid.Literals.{literal_at}
 ghost use Rattle.wy_prove_drafts.specs.wy_check_spec.valid.Products.{as_product};
 ghost use Rattle.wy_prove_rounds.specs.Moving.{IsFit, Moves};
 
-use wy_check_nodes::{Branch, literal_at, pending_at};
-use wy_prove_drafts::{Draft, literal_number, write_product};
+use wy_prove_drafts::{Branch, Draft, literal_at, literal_number, pending_at, write_product};
 use wy_search::{Bound, Bounds, KnownForms, bounds_of, standing};
 use wy_term::{NoMemory, Node, Terms};
 

@@ -3,7 +3,7 @@ ghost use Rattle.std.specs.Prelude.{◌≡◌, ◌<◌, IfOk, OnOk, length, map}
 ghost use Rattle.wy_prove_drafts.specs.Draft.{IsDraft, seen_draft};
 ghost use Rattle.wy_facts.specs.Membership.{AreTypesBelow};
 ghost use Rattle.wy_facts.specs.Seen.{AreBelow, Stays};
-ghost use Rattle.wy_check_nodes.specs.Seen.{IsBranch, seen_branch};
+ghost use Rattle.wy_prove_drafts.specs.wy_check_nodes.Seen.{IsBranch, seen_branch};
 ghost use Rattle.wy_prove_drafts.specs.wy_search_spec.Expansion as search;
 ghost use Rattle.wy_search.specs.StatedSeen.{IsSpot, seen_spot};
 ghost use Rattle.wy_search.specs.Turns.{begun, index_terms_in};
@@ -13,8 +13,7 @@ ghost use Rattle.wy_prove_rounds.specs.Moving.{Reaches};
 ghost use Rattle.wy_prove_rounds.specs.Rounds.{GoesBeside, IsBeside};
 
 use crate::expanding::{add_facts, add_instances, add_products, add_witnesses};
-use wy_check_nodes::Branch;
-use wy_prove_drafts::Draft;
+use wy_prove_drafts::{Branch, Draft};
 use wy_search::Spot;
 use wy_term::{Cond, NoMemory, Terms};
 

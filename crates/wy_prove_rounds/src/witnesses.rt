@@ -3,7 +3,7 @@ ghost use Rattle.std.specs.Prelude.{◌≡◌, ◌<◌, List, Some, true, IfOk, 
 ghost use Rattle.wy_prove_drafts.specs.Draft.{IsDraft, seen_draft};
 ghost use Rattle.wy_facts.specs.Seen.{Stays};
 ghost use Rattle.wy_prove_drafts.specs.wy_check_spec.judge.Node.{Node, has_literal, with_formulas};
-ghost use Rattle.wy_check_nodes.specs.Seen.{IsBranch, seen_branch, seen_literal};
+ghost use Rattle.wy_prove_drafts.specs.wy_check_nodes.Seen.{IsBranch, seen_branch, seen_literal};
 ghost use Rattle.wy_prove_drafts.specs.wy_search_spec.Expansion as search;
 ghost use Rattle.wy_search.specs.StatedSeen.{IsSpot, seen_spot};
 ghost use Rattle.wy_term.specs.Condition.{Entry};
@@ -11,9 +11,9 @@ ghost use Rattle.wy_term.specs.Nodes.{tree_at};
 ghost use Rattle.wy_prove_drafts.specs.wy_check_spec.valid.Ranges.{Range, of_one, witness, witnessed_at};
 ghost use Rattle.wy_prove_rounds.specs.Moving.{Follows, IsAlong};
 
-use wy_check_nodes::{Branch, add_literal, has_literal, nth_literal};
-use wy_check_splits::of_one;
-use wy_prove_drafts::{Draft, literal_number, write_witness};
+use wy_prove_drafts::{
+    Branch, Draft, add_literal, has_literal, literal_number, nth_literal, of_one, write_witness,
+};
 use wy_search::{Spot, copied_branch};
 use wy_term::{NoMemory, Terms};
 

@@ -18,9 +18,9 @@ pub use expanding::expanded;
 pub use turning::{Next, copied, what_follows, with_atom, with_next_atom};
 pub use verdict::{OpenLeaf, Verdict, Why};
 pub use walk::{first_spot, search};
-pub use wy_cong::{classes, classes_clash, standing, terms_present};
 pub use wy_search_bounds::{
-    Bound, Bounds, Ending, KnownForms, bounds_of, ending_of_elimination, no_forms, products_of,
+    Bound, Bounds, Ending, KnownForms, bounds_of, classes, classes_clash, ending_of_elimination,
+    no_forms, products_of, standing, terms_present,
 };
 pub use wy_search_facts::{
     Spot, copied_branch, facts_of, index_terms, is_element, measured, read_count, with_instances,

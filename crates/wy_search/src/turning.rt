@@ -18,8 +18,9 @@ use crate::expanding::expanded;
 use crate::verdict::Why;
 use std::alloc::Global;
 use wy_check_nodes::{Branch, add, bare, is_shut};
-use wy_cong::{classes, classes_clash, next_atom, terms_present};
-use wy_search_bounds::{Ending, KnownForms, ending_of_elimination};
+use wy_search_bounds::{
+    Ending, KnownForms, classes, classes_clash, ending_of_elimination, next_atom, terms_present,
+};
 use wy_search_facts::{Spot, copied_branch};
 use wy_term::{Cond, NoMemory, Terms};
 

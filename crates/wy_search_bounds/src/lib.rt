@@ -36,3 +36,7 @@ pub use products::{Bounds, bounds_of, products_of};
 pub use removal::{Taking, takings};
 pub use replacing::{Replaced, replace};
 pub use tightest::Bound;
+pub use wy_check::product_stated;
+pub use wy_cong::{
+    Present, classes, classes_clash, in_one_class, next_atom, place, standing, terms_present,
+};

@@ -13,4 +13,4 @@ pub use Rattle.wy_search_bounds.proofs.wy_check_nodes_proofs as wy_check_nodes_p
 pub use Rattle.wy_search_bounds.proofs.wy_check_spec_proofs as wy_check_spec_proofs
 pub use Rattle.wy_search_bounds.proofs.wy_facts_proofs as wy_facts_proofs
 pub use Rattle.wy_search_bounds.proofs as wy_search_bounds_proofs
-pub use Rattle.wy_search_spec.proofs as wy_search_spec_proofs
+pub use Rattle.wy_search_bounds.proofs.wy_search_spec_proofs as wy_search_spec_proofs

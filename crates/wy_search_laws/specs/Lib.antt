@@ -15,4 +15,4 @@ pub use Rattle.wy_search_bounds.specs.wy_cong as wy_cong
 pub use Rattle.wy_search_bounds.specs.wy_facts as wy_facts
 pub use Rattle.wy_search_bounds.specs.wy_lin as wy_lin
 pub use Rattle.wy_search_bounds.specs as wy_search_bounds
-pub use Rattle.wy_search_spec.specs as wy_search_spec
+pub use Rattle.wy_search_bounds.specs.wy_search_spec as wy_search_spec

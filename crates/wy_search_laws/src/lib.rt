@@ -12,3 +12,8 @@ pub mod programs;
 pub mod rounds;
 pub mod sound;
 pub mod sums;
+
+pub use wy_search_bounds::{
+    Present, Replaced, Taking, classes, in_one_class, numbered, product_stated, replace, takings,
+    terms_present,
+};

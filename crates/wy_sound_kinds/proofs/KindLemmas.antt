@@ -1,5 +1,6 @@
 -- Each answer of an expression is of its kind.
 use Rattle.std.proofs.Common.{◌≡◌, ℕ, ◌+◌, List, [], ◌∷◌, ◌++◌, length, Bool, true, false, Option, Some, ℤ, refl, sym, ap, ◌∙◌, subst, arith}
+use Rattle.wy_lemmas.proofs.Options.{some_same as same_some}
 use Rattle.wy_lemmas.proofs.Lists.{none_behind as nil_right}
 use Rattle.wy_value.specs.Datum.{Datum, Null, Truth, Whole, Array, Record, no_fields, field}
 use Rattle.wy_value.specs.Datum as datum
@@ -75,9 +76,6 @@ module _ (p : Program) (r : Rules) (w : Setting Node) (paid : Bool) (says : Ty �
 
   told : (over : Changes) (u v : Found) (d : Datum) → Gives u ≡ Gives v → R over v d → R over u d
   told over u v d e g = as_found p.names env over seen s u v d e g
-
-  same_some : (a b : Datum) → ◌≡◌ {A = Option Datum} (Some a) (Some b) → a ≡ b
-  same_some a b p = cc
 
   own_bounded : (x : ℕ) (d : Datum) → seen x ≡ true → slot s x ≡ Some d → IsBounded d
   own_bounded x d see e = let o = values x see in let is : o.0 ≡ d = same_some o.0 d (sym o.1 ∙ e) in subst IsBounded is o.2

@@ -1,6 +1,7 @@
 -- Answers of the other nodes, where those of their parts are of their kinds.
 use Rattle.std.proofs.Common.{◌≡◌, inl, inr, ℕ, zero, suc, ◌+◌, ◌-◌, ◌^◌, ◌<◌, ◌≤◌, List, [], ◌∷◌, ◌++◌, length, Bool, true, false, not, ◌&&◌, Option, Some, None, ℤ, pos, ◌+ℤ◌, int_le, refl, sym, ap, ◌∙◌, subst}
 use Rattle.std.specs.Prelude.{slice_get}
+use Rattle.wy_lemmas.proofs.Options.{some_same as same_some}
 use Rattle.wy_lemmas.proofs.Choices.{both_true as two_true, off as true_false}
 use Rattle.wy_value.specs.Datum.{Datum, Null, Truth, Whole, Array, Record, Data, Fields}
 use Rattle.wy_core.specs.Types.{Ty, ArrayTy, RecordTy, InterTy, NotTy}
@@ -74,9 +75,6 @@ its_value w paid (QuantExpr at all x a b body) number s m = every_told _ _ (λ d
 not_of : (b : Bool) → (b ≡ true → ⊥) → not b ≡ true
 not_of true h = absurd (h refl)
 not_of false h = refl
-
-pub same_some : (a b : Datum) → ◌≡◌ {A = Option Datum} (Some a) (Some b) → a ≡ b
-same_some a b p = cc
 
 -- the arguments fit the parameters
 pub fit_in : (names : List Declared) (at : ℕ) (u : Unit {0}) (ts params : List Ty) (vs : List Datum) → Fit names at ts params (Gives u) → AllIn names ts vs → AreIn names params vs

@@ -1,6 +1,7 @@
 -- Types of variables under changes, and what readings of types say of data.
 use Rattle.std.specs.Str.{bytes_eq}
 use Rattle.std.proofs.Common.{◌≡◌, ◌⊎◌, inl, inr, ℕ, zero, suc, ◌+◌, ◌<◌, List, [], ◌∷◌, ◌++◌, length, Bool, true, false, cond, not, ◌&&◌, ◌||◌, ◌==◌, eqb-true, Option, Some, None, ℤ, refl, sym, ap, ◌∙◌, subst, arith}
+use Rattle.wy_lemmas.proofs.Options.{some_same as same_some}
 use Rattle.wy_lemmas.proofs.Choices.{or_left, both_true as two_true, or_right, apart_of}
 use Rattle.wy_lemmas.proofs.Lists.{bytes_self, none_behind as nil_right}
 pub use Rattle.wy_sound_kinds.proofs.frames_lemmas.FrameLemmas.{put_other}
@@ -126,9 +127,6 @@ module _ (seen : ℕ → Bool) (s : Store) (x : ℕ) (i : ℤ) (lt : x < length 
       by : (b : Bool) → (x == y) ≡ b → (b || seen y) ≡ true → (d : Datum) × (slot bound y ≡ Some d) × IsBounded d
       by true q g = (Whole i, ap (slot bound) (sym (eqb-true x y q)) ∙ put_same s x (Some (Whole i)) lt, int)
       by false q g = let o = h y g in (o.0, put_other s x (Some (Whole i)) y (apart_of x y q) ∙ o.1, o.2)
-
-  same_some : (a b : Datum) → ◌≡◌ {A = Option Datum} (Some a) (Some b) → a ≡ b
-  same_some a b p = cc
 
   pub types_bound : (names : List Declared) (env : Environment) (over : Changes) → env.reached ≡ true → HasTypes names env over seen s → HasTypes names env (over ++ (x, int_type) ∷ []) (with_one x seen) bound
   types_bound names env over reached h y d see e = ap (Up names d) (type_more env over x int_type y reached) ∙ by (x == y) refl see

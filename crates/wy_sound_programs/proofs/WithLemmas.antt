@@ -30,7 +30,8 @@ use Rattle.wy_types.proofs.OnceLemmas.{any_in-united_conjuncts}
 use Rattle.wy_types.proofs.QuestionLemmas.{is_asked, question_ranked, first_agrees, second_agrees, conjuncts_agree}
 use Rattle.wy_types.proofs.RankedLemmas.{has_laws}
 use Rattle.wy_types.proofs.TermLemmas.{any_in-dnf_part}
-use Rattle.wy_types.proofs.AskLemmas.{some_fields, ways_from-in, laws_of}
+use Rattle.wy_types.proofs.AskLemmas.{some_fields}
+use Rattle.wy_sound_statements.proofs.wy_types_laws_proofs.parts_lemmas.ValueLemmas.{some_hold}
 use Rattle.wy_subtype.specs.Valued.{ways_of, all_ways, IsInhabited, AreInhabited}
 use Rattle.wy_subtype.proofs.ValueLemmas.{part_in-inside}
 use Rattle.wy_subtype.proofs.ValuedLemmas.{any_in-valued, valued_have}
@@ -152,35 +153,6 @@ module _ (table : Table) (k : ℕ) (f : List ℕ) (terms : List (Signed ℕ)) (v
       subst (Hits (set_field fs f v)) (sym h.2)
       (either (or_cases (Row fs w) (some_fields (names_of fs) (field_readers table k fs) ws) e) (λ g. inl (set_row fs w r g)) (λ g. inr (ways_hit fs ws h.0 h.3 r g)))
   ways_hit fs (w ∷ ws) made (inr h) r e = either (or_cases (Row fs w) (some_fields (names_of fs) (field_readers table k fs) ws) e) (λ g. absurd (h.0 (inhabited_of fs w g))) (λ g. ways_hit fs ws made h.1 r g)
-
--- ---- records of conjuncts are in their ways
-
-module _ (table : Table) (k : ℕ) (ranks : (rank : ℕ → ℕ) × IsRanked table rank k) (f : List ℕ) where
-  ways_hold : (row : Fields) (a : Atom ℕ) (ns : List (Atom ℕ)) → atom_has f a ≡ true → (atom_in (RecordShape (names_of row) (field_readers table k row)) a && none_in (RecordShape (names_of row) (field_readers table k row)) ns) ≡ true
-      → (let c : Conjunct ℕ = record { positive = a; negatives = ns } in some_fields (names_of row) (field_readers table k row) (ways_of table k c) ≡ true)
-  ways_hold row (atom.Record fs) ns has e =
-      ways_from-in table k (names_of row) (field_readers table k row) (laws_of table ranks.0 k ranks.1 row) (fs ∷ []) ns
-      ∙ ap (λ b. b && none_in (RecordShape (names_of row) (field_readers table k row)) ns) (or_false (fields_in (names_of row) (field_readers table k row) fs))
-      ∙ e
-  ways_hold row atom.Null ns has e = false_true has
-  ways_hold row atom.Bool ns has e = false_true has
-  ways_hold row atom.Int ns has e = false_true has
-  ways_hold row (atom.Array p) ns has e = false_true has
-  ways_hold row atom.AnyRecord ns has e = false_true has
-
-  some_append : (ns : List (List ℕ)) (rs : List (Bool → ℕ → Bool)) (xs ys : List (List (List ℕ × Part ℕ))) → some_fields ns rs (xs ++ ys) ≡ (some_fields ns rs xs || some_fields ns rs ys)
-  some_append ns rs [] ys = refl
-  some_append ns rs (x ∷ xs) ys = ap (λ b. fields_in ns rs x || b) (some_append ns rs xs ys) ∙ sym (or_assoc (fields_in ns rs x) (some_fields ns rs xs) (some_fields ns rs ys))
-
-  some_hold : (row : Fields) (cs : List (Conjunct ℕ)) → all_have f cs ≡ true → any_in (RecordShape (names_of row) (field_readers table k row)) cs ≡ true → some_fields (names_of row) (field_readers table k row) (all_ways table k cs) ≡ true
-  some_hold row [] has e = false_true e
-  some_hold row (c ∷ cs) has e =
-      let first = some_fields (names_of row) (field_readers table k row) (ways_of table k c) in
-      let rest = some_fields (names_of row) (field_readers table k row) (all_ways table k cs) in
-      let all = both (atom_has f c.positive) (all_have f cs) has in
-      some_append (names_of row) (field_readers table k row) (ways_of table k c) (all_ways table k cs)
-      ∙ either (or_cases (conjunct_in (RecordShape (names_of row) (field_readers table k row)) c) (any_in (RecordShape (names_of row) (field_readers table k row)) cs) e)
-      (λ g. or_left first rest (ways_hold row c.positive c.negatives all.0 g)) (λ g. or_right first rest (some_hold row cs all.1 g))
 
 -- ---- a question about both types
 

@@ -3,7 +3,7 @@ use Rattle.std.proofs.Common.{◌≡◌, ◌<◌, ℕ, zero, suc, ◌+◌, ◌==
 use Rattle.wy_lemmas.proofs.Choices.{apart_of, false_true as no_value}
 use Rattle.wy_sem.proofs.SharedLemmas.{unset_length}
 use Rattle.wy_sound_statements.proofs.wy_sound_kinds_proofs.frames_lemmas.FrameLemmas.{put_other}
-use Rattle.wy_sound_statements.proofs.wy_sound_kinds_proofs.NodeLemmas.{same_some}
+use Rattle.wy_lemmas.proofs.Options.{some_same as same_some}
 use Rattle.wy_value.specs.Datum.{Datum}
 use Rattle.wy_core.specs.Types.{Ty}
 use Rattle.wy_core.specs.CoreTree as tree

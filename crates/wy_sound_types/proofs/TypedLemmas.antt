@@ -2,7 +2,7 @@
 use Rattle.std.proofs.Common.{◌≡◌, ◌<◌, ◌≤◌, ◌⊎◌, inl, inr, ℕ, zero, suc, ◌+◌, ◌==◌, ◌||◌, List, [], ◌∷◌, length, Bool, true, false, Option, Some, None, refl, sym, ap, ◌∙◌, subst, arith, eqb-true}
 use Rattle.std.proofs.lemmas.Bool.{cases_lt}
 use Rattle.wy_sem.proofs.SharedLemmas.{alias_past, unset_length}
-use Rattle.wy_sound_statements.proofs.wy_sound_kinds_proofs.NodeLemmas.{same_some}
+use Rattle.wy_lemmas.proofs.Options.{some_same as same_some}
 use Rattle.wy_value.specs.Datum.{Datum}
 use Rattle.wy_core.specs.Types.{Ty}
 use Rattle.wy_core.specs.CoreTree.{Expr, Alias, Core}

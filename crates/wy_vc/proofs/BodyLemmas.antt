@@ -17,7 +17,7 @@ use Rattle.wy_vc_spec.specs.Spots.{Spot, Flow, spot, with_hyps}
 use Rattle.wy_vc_spec.specs.Statements.{Body, exec_all}
 use Rattle.wy_vc_spec.specs.Values.{Setting, named_in, clause_formula}
 use Rattle.wy_vc_spec.specs.Variables.{Vars}
-use Rattle.wy_vc_operations.specs.Growing.{Kept}
+use Rattle.wy_vc_body.specs.wy_vc_operations.Growing.{Kept}
 use Rattle.wy_vc_body.specs.declared.here.Here.{Here}
 use Rattle.wy_vc_body.specs.Types.{types_in}
 use Rattle.wy_vc_body.proofs.NumberedLemmas.{numbered_types}

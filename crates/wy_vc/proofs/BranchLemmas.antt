@@ -14,8 +14,8 @@ use Rattle.wy_vc_spec.specs.Owed.{Owed, assume}
 use Rattle.wy_vc_spec.specs.Spots.{Spot, spot, Flow, as_list}
 use Rattle.wy_vc_spec.specs.Statements as spec
 use Rattle.wy_vc_spec.specs.Variables.{Vars}
-use Rattle.wy_vc_operations.proofs.GrowingLemmas.{here_kept}
-use Rattle.wy_vc_operations.specs.Growing.{Kept, AreBelow, Makes}
+use Rattle.wy_vc_body.proofs.wy_vc_operations_proofs.GrowingLemmas.{here_kept}
+use Rattle.wy_vc_body.specs.wy_vc_operations.Growing.{Kept, AreBelow, Makes}
 use Rattle.wy_vc_body.specs.declared.here.Here.{Here}
 use Rattle.wy_vc_body.specs.wy_vc_terms.declared.maker.Maker.{Maker}
 use Rattle.wy_vc_body.specs.wy_vc_exprs.Numbered.{trees_of}

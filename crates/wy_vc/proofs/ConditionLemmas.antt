@@ -26,13 +26,13 @@ use Rattle.wy_vc.specs.Counted.{passing_told}
 use Rattle.wy_vc.specs.Told.{Told, seen_cond, told}
 use Rattle.wy_vc_tables.specs.program_names.Described.{setting}
 use Rattle.wy_vc_tables.specs.declared.program_names.program.Program.{Program}
-use Rattle.wy_vc_operations.specs.Growing.{Kept}
+use Rattle.wy_vc_body.specs.wy_vc_operations.Growing.{Kept}
 use Rattle.wy_vc_body.specs.wy_vc_exprs.State.{IsGoal, IsSound, owed_of, seen_goal}
 use Rattle.wy_vc_body.specs.wy_vc_exprs.declared.goal.Goal.{Goal}
 use Rattle.wy_vc_body.specs.wy_vc_exprs.declared.walk.Walk.{Walk}
 use Rattle.wy_vc_body.proofs.wy_vc_exprs_proofs.StateLemmas.{goal_kept, goals_kept}
 use Rattle.wy_vc.specs.Entering.{OwesFirst}
-use Rattle.wy_vc_operations.specs.Growing.{AreBelow}
+use Rattle.wy_vc_body.specs.wy_vc_operations.Growing.{AreBelow}
 use Rattle.wy_vc_body.specs.wy_vc_terms.declared.maker.Maker.{Maker}
 use Rattle.wy_vc.specs.Listed.{AreFirst, HasTypesOnce, limit_of, owed_by, setting_in, told_of}
 

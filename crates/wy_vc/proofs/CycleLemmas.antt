@@ -34,7 +34,7 @@ use Rattle.wy_vc.proofs.EndLemmas.{end_some}
 use Rattle.wy_vc.proofs.FlowLemmas.{flows_quiet}
 use Rattle.wy_vc.proofs.HeadLemmas.{while_went}
 use Rattle.wy_vc.proofs.MoveLemmas.{front_long, longer_length}
-use Rattle.wy_vc_operations.proofs.GrowingLemmas.{kept_all}
+use Rattle.wy_vc_body.proofs.wy_vc_operations_proofs.GrowingLemmas.{kept_all}
 
 -- ---- statements without `break`s
 

@@ -14,8 +14,8 @@ use Rattle.wy_vc_spec.specs.Programs.{decl_conditions, decls_conditions}
 use Rattle.wy_vc_spec.specs.Sizes.{exprs_in_block, exprs_in_list}
 use Rattle.wy_vc_spec.specs.Walks as walks
 use Rattle.wy_lemmas.proofs.Lists.{next_of}
-use Rattle.wy_vc_operations.proofs.GrowingLemmas.{kept_all}
-use Rattle.wy_vc_operations.specs.Growing.{Kept}
+use Rattle.wy_vc_body.proofs.wy_vc_operations_proofs.GrowingLemmas.{kept_all}
+use Rattle.wy_vc_body.specs.wy_vc_operations.Growing.{Kept}
 use Rattle.wy_vc_body.specs.wy_vc_exprs.State.{IsSound, owed_of}
 use Rattle.wy_vc_body.specs.wy_vc_exprs.declared.walk.Walk.{Walk}
 use Rattle.wy_vc_body.proofs.wy_vc_exprs_proofs.NumberedLemmas.{kept_then}

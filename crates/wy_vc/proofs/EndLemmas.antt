@@ -6,7 +6,7 @@ use Rattle.wy_term.specs.Term.{Term}
 use Rattle.wy_term.specs.Nodes.{Plain}
 use Rattle.wy_vc_spec.specs.Spots.{Spot, spot, as_list}
 use Rattle.wy_vc_spec.specs.Variables.{Vars}
-use Rattle.wy_vc_operations.specs.Growing.{Kept, AreBelow}
+use Rattle.wy_vc_body.specs.wy_vc_operations.Growing.{Kept, AreBelow}
 use Rattle.wy_vc_body.specs.declared.here.Here.{Here}
 use Rattle.wy_vc_body.specs.wy_vc_exprs.Numbered.{trees_of}
 use Rattle.wy_vc_body.specs.wy_vc_exprs.Slots.{AreSlots, slots_of}

@@ -17,7 +17,7 @@ use Rattle.wy_vc_spec.specs.Spots.{Spot, spot, mark}
 use Rattle.wy_vc_spec.specs.Statements.{Renewed}
 use Rattle.wy_vc_spec.specs.Values.{Setting, variable, word_at, word_if}
 use Rattle.wy_vc_spec.specs.Variables.{Vars, put, put_if}
-use Rattle.wy_vc_operations.specs.Growing.{Kept, Makes}
+use Rattle.wy_vc_body.specs.wy_vc_operations.Growing.{Kept, Makes}
 use Rattle.wy_vc_body.specs.declared.here.Here.{Here}
 use Rattle.wy_vc_body.specs.wy_vc_exprs.Numbered.{trees_of}
 use Rattle.wy_vc_body.specs.wy_vc_exprs.Slots.{AreSlots, slots_of}

@@ -12,8 +12,8 @@ use Rattle.wy_vc_spec.specs.Owed.{Owed}
 use Rattle.wy_vc_spec.specs.Sizes.{exprs_in_block, exprs_in_stmt}
 use Rattle.wy_vc_spec.specs.Spots.{Spot, Flow, goes, stops, and_then, go_on, followed}
 use Rattle.wy_vc_spec.specs.Statements as spec
-use Rattle.wy_vc_operations.proofs.GrowingLemmas.{kept_all}
-use Rattle.wy_vc_operations.specs.Growing.{Kept, AreBelow}
+use Rattle.wy_vc_body.proofs.wy_vc_operations_proofs.GrowingLemmas.{kept_all}
+use Rattle.wy_vc_body.specs.wy_vc_operations.Growing.{Kept, AreBelow}
 use Rattle.wy_vc_body.specs.declared.here.Here.{Here}
 use Rattle.wy_vc_body.specs.wy_vc_exprs.Slots.{AreSlots}
 use Rattle.wy_vc_body.specs.wy_vc_exprs.State.{IsGoal, IsSound, owed_of, seen_goal}

@@ -17,7 +17,7 @@ use Rattle.wy_vc_spec.specs.Spots.{Spot, spot, Flow, with_hyps}
 use Rattle.wy_vc_spec.specs.Statements as spec
 use Rattle.wy_vc_spec.specs.Variables.{Vars}
 use Rattle.wy_vc_body.specs.declared.here.Here.{Here}
-use Rattle.wy_vc_operations.proofs.GrowingLemmas.{kept_all}
+use Rattle.wy_vc_body.proofs.wy_vc_operations_proofs.GrowingLemmas.{kept_all}
 use Rattle.wy_vc_body.specs.wy_vc_terms.declared.maker.Maker.{Maker}
 use Rattle.wy_vc_body.specs.wy_vc_exprs.Numbered.{trees_of}
 use Rattle.wy_vc_body.specs.wy_vc_exprs.Slots.{AreSlots, slots_of}

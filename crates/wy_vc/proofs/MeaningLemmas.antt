@@ -11,7 +11,7 @@ use Rattle.wy_vc_spec.specs.Limits as limits
 use Rattle.wy_vc_spec.specs.Limits.{formulas_of, is_among, tests_in, tests_in_all}
 use Rattle.wy_vc_spec.specs.Numbered.{Node}
 use Rattle.wy_vc_spec.specs.Values.{Setting, defined, named_in, test_name, test_formula}
-use Rattle.wy_vc_operations.specs.Growing.{Kept}
+use Rattle.wy_vc_body.specs.wy_vc_operations.Growing.{Kept}
 use Rattle.wy_vc.specs.Meanings.{AreMeanings, AreMeaningsFrom, IsMeaning, tests_at}
 use Rattle.wy_vc.specs.Mentioned.{reached, tested_by}
 use Rattle.wy_vc.specs.declared.unfolding.Meaning.{Meaning}

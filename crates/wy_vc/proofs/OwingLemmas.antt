@@ -23,8 +23,8 @@ use Rattle.wy_vc_spec.specs.Statements.{Body, Renewed, walk_clauses}
 use Rattle.wy_vc_spec.specs.Values.{word_at}
 use Rattle.wy_vc_spec.specs.Variables.{Vars, put}
 use Rattle.wy_vc_spec.specs.Walks as walks
-use Rattle.wy_vc_operations.proofs.GrowingLemmas.{kept_all}
-use Rattle.wy_vc_operations.specs.Growing.{Kept, AreBelow, Makes}
+use Rattle.wy_vc_body.proofs.wy_vc_operations_proofs.GrowingLemmas.{kept_all}
+use Rattle.wy_vc_body.specs.wy_vc_operations.Growing.{Kept, AreBelow, Makes}
 use Rattle.wy_vc_body.specs.declared.here.Here.{Here}
 use Rattle.wy_vc_body.specs.wy_vc_exprs.Numbered.{trees_of}
 use Rattle.wy_vc_body.specs.wy_vc_exprs.Slots.{AreSlots, slots_of}

@@ -13,7 +13,7 @@ use Rattle.wy_term.specs.Condition.{entry_of}
 use Rattle.wy_term.specs.declared.cond.Cond.{Cond}
 use Rattle.wy_vc_spec.specs.Limits as spec
 use Rattle.wy_vc_spec.specs.Limits.{different, has_term, is_among, terms_in, terms_in_all, terms_of_unfold}
-use Rattle.wy_vc_operations.specs.Growing.{AreBelow}
+use Rattle.wy_vc_body.specs.wy_vc_operations.Growing.{AreBelow}
 use Rattle.wy_vc.specs.Gathered.{AreGathered, AreHeld, Grown}
 use Rattle.wy_vc.specs.Shared.{AreApart, AreUnder}
 use Rattle.wy_vc.proofs.AmongLemmas.{among_first, among_cases, among_left, among_right, among_either, further_all, has_first, has_cases, has_either, has_left, has_right, in_root, root_in}

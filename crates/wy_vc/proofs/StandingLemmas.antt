@@ -7,7 +7,7 @@ use Rattle.wy_lemmas.proofs.Choices.{same_test, or_regrouped as or_assoc}
 use Rattle.wy_term.specs.Term.{Term}
 use Rattle.wy_term.specs.Nodes.{Plain, tree_at}
 use Rattle.wy_vc_spec.specs.Limits.{is_among, tests_in, tests_in_all}
-use Rattle.wy_vc_operations.specs.Growing.{AreBelow}
+use Rattle.wy_vc_body.specs.wy_vc_operations.Growing.{AreBelow}
 use Rattle.wy_vc.specs.Standing.{AreAlike, AreFirst, AreJoined, AreTested, Stand, Stands}
 use Rattle.wy_vc.specs.declared.standing.Standing.{Standing}
 use Rattle.wy_vc.proofs.AmongLemmas.{among_cases, among_either, among_left}

@@ -13,7 +13,7 @@ use Rattle.wy_vc_spec.specs.Limits as limits
 use Rattle.wy_vc_spec.specs.Numbered.{Node}
 use Rattle.wy_vc_spec.specs.Owed.{Owed}
 use Rattle.wy_vc_spec.specs.Values.{Setting, test_name}
-use Rattle.wy_vc_operations.specs.Growing.{AreBelow}
+use Rattle.wy_vc_body.specs.wy_vc_operations.Growing.{AreBelow}
 use Rattle.wy_vc_body.specs.wy_vc_exprs.Numbered.{trees_of}
 use Rattle.wy_vc_body.specs.wy_vc_exprs.State.{IsGoal, seen_goal}
 use Rattle.wy_vc_body.specs.wy_vc_exprs.declared.goal.Goal.{Goal}

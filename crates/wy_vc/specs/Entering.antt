@@ -3,7 +3,7 @@ use Rattle.std.specs.Prelude.{◌≡◌, ◌⊎◌, ℕ, List, [], ◌++◌, len
 use Rattle.wy_vc_spec.specs.Clauses.{passed}
 use Rattle.wy_vc_spec.specs.Owed.{Owed}
 use Rattle.wy_vc_spec.specs.Statements.{Renewed}
-use Rattle.wy_vc_operations.specs.Growing.{Kept}
+use Rattle.wy_vc_body.specs.wy_vc_operations.Growing.{Kept}
 use Rattle.wy_vc_body.specs.wy_vc_exprs.Slots.{AreSlots, slots_of}
 use Rattle.wy_vc_body.specs.wy_vc_exprs.State.{IsSound, Steps, owed_of}
 use Rattle.wy_vc_body.specs.wy_vc_exprs.declared.walk.Walk.{Walk}

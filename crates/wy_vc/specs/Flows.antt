@@ -3,7 +3,7 @@ use Rattle.std.specs.Prelude.{◌≡◌, ℕ, List, ◌++◌, take, Option, Some
 use Rattle.wy_term.specs.Nodes.{Plain}
 use Rattle.wy_vc_spec.specs.Owed.{Owed}
 use Rattle.wy_vc_spec.specs.Spots.{Spot, Flow}
-use Rattle.wy_vc_operations.specs.Growing.{Kept}
+use Rattle.wy_vc_body.specs.wy_vc_operations.Growing.{Kept}
 use Rattle.wy_vc_body.specs.declared.here.Here.{Here}
 use Rattle.wy_vc_body.specs.wy_vc_exprs.Slots.{AreSlots}
 use Rattle.wy_vc_body.specs.wy_vc_exprs.State.{IsSound, owed_of}

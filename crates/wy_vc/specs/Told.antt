@@ -7,7 +7,7 @@ use Rattle.wy_term.specs.declared.cond.CondKind.{CondKind}
 use Rattle.wy_vc_spec.specs.Limits.{unfold_of}
 use Rattle.wy_vc_spec.specs.Owed.{Owed}
 use Rattle.wy_vc_spec.specs.Values.{Setting}
-use Rattle.wy_vc_operations.specs.Growing.{AreBelow}
+use Rattle.wy_vc_body.specs.wy_vc_operations.Growing.{AreBelow}
 use Rattle.wy_vc.specs.Mentioned.{marked}
 use Rattle.wy_vc.specs.declared.unfolding.Meaning.{Meaning}
 

@@ -20,8 +20,7 @@ ghost use Rattle.wy_vc_body.specs.wy_vc_exprs.State.{IsSound, Steps, hyps_of};
 use std::alloc::Global;
 use wy_core::Expr;
 use wy_term::NoMemory;
-use wy_vc_body::{Frame, Here, Path, Walk, meet, path_here, walked};
-use wy_vc_operations::{denied, formula};
+use wy_vc_body::{Frame, Here, Path, Walk, denied, formula, meet, path_here, walked};
 
 /// A test that was walked: how many hypotheses there are behind it, and the formulas that it is true and that it is false, each by the
 /// number of its term.

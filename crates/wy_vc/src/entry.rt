@@ -16,8 +16,7 @@ use std::alloc::{AllocError, Global};
 use wy_core::{Core, Output, Param, Routine};
 use wy_data::Name;
 use wy_term::NoMemory;
-use wy_vc_body::{Here, Walk, assume_in_type, new_name, variable, word_of};
-use wy_vc_operations::{put, val_name};
+use wy_vc_body::{Here, Walk, assume_in_type, new_name, put, val_name, variable, word_of};
 use wy_vc_tables::program_names::Program;
 
 // A parameter takes a new name, and has a value.

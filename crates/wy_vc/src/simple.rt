@@ -17,8 +17,10 @@ ghost use Rattle.wy_vc_body.specs.wy_vc_exprs.State.{IsSound};
 use std::alloc::Global;
 use wy_core::{Expr, Step, Ty};
 use wy_term::{CondKind, NoMemory};
-use wy_vc_body::{Frame, Here, Walk, assign, call, give, leave, new_name, walked, walked_all};
-use wy_vc_operations::{disjunction, formula};
+use wy_vc_body::{
+    Frame, Here, Walk, assign, call, disjunction, formula, give, leave, new_name, walked,
+    walked_all,
+};
 
 // `int x`: the variable takes a new name, and has no value.
 fn declare_name(

@@ -6,7 +6,7 @@
 ghost use Rattle.std.specs.Prelude.{◌≡◌, ◌<◌, ◌++◌, ◌∷◌, [], ℕ, List, length as count_of, get_or, map, take, IfOk, OnOk};
 ghost use Rattle.wy_vc_spec.specs.Limits.{is_among, tests_in_all};
 ghost use Rattle.wy_term.specs.Nodes.{Plain, tree_at};
-ghost use Rattle.wy_vc_operations.specs.Growing.{AreBelow};
+ghost use Rattle.wy_vc_body.specs.wy_vc_operations.Growing.{AreBelow};
 ghost use Rattle.wy_vc.specs.Standing as spec;
 ghost use Rattle.wy_vc.specs.Tested.{AreQuiet};
 

@@ -12,8 +12,7 @@ use crate::begin::begin;
 use std::alloc::Global;
 use wy_core::{Alias, Core};
 use wy_term::NoMemory;
-use wy_vc_body::{Walk, assume_in_type, new_name, walk_clauses};
-use wy_vc_operations::put;
+use wy_vc_body::{Walk, assume_in_type, new_name, put, walk_clauses};
 use wy_vc_tables::program_names::Program;
 
 // What the clauses owe, the first of whose expressions has this number: of a name that is in the type's definition.

@@ -3,7 +3,7 @@ ghost use Rattle.std.specs.Prelude.{◌≡◌, ◌<◌, length as count_of, IfOk
 ghost use Rattle.wy_term.specs.Nodes.{Plain};
 ghost use Rattle.wy_vc.specs.Meanings as spec;
 ghost use Rattle.wy_vc_tables.specs.program_names.Described.{IsDescribed, setting};
-ghost use Rattle.wy_vc_operations.specs.Growing.{Kept};
+ghost use Rattle.wy_vc_body.specs.wy_vc_operations.Growing.{Kept};
 
 use crate::small::small;
 use crate::tests_of_types::types_tested;

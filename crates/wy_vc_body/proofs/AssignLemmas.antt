@@ -14,7 +14,7 @@ use Rattle.wy_vc_exprs.specs.wy_vc_spec.Spots.{spot}
 use Rattle.wy_vc_exprs.specs.wy_vc_spec.Statements as spec
 use Rattle.wy_vc_exprs.specs.wy_vc_spec.Values.{variable}
 use Rattle.wy_vc_exprs.specs.wy_vc_spec.Variables.{Vars}
-use Rattle.wy_vc_operations.specs.Growing.{Kept, Makes}
+use Rattle.wy_vc_exprs.specs.wy_vc_operations.Growing.{Kept, Makes}
 use Rattle.wy_vc_body.specs.declared.here.Here.{Here}
 use Rattle.wy_vc_exprs.specs.Slots.{AreSlots, slots_of}
 use Rattle.wy_vc_exprs.specs.State.{IsSound, Steps, Walks, hyps_of, passed_by}

@@ -9,8 +9,8 @@ use Rattle.wy_term.specs.Numbers.{IsAt}
 use Rattle.wy_vc_exprs.specs.wy_vc_spec.Joins as spec
 use Rattle.wy_vc_exprs.specs.wy_vc_spec.Making.{equal}
 use Rattle.wy_vc_exprs.specs.wy_vc_spec.Variables.{Vars, slot_at}
-use Rattle.wy_vc_operations.proofs.GrowingLemmas.{kept_all}
-use Rattle.wy_vc_operations.specs.Growing.{Kept, Makes, AreAt}
+use Rattle.wy_vc_exprs.proofs.wy_vc_operations_proofs.GrowingLemmas.{kept_all}
+use Rattle.wy_vc_exprs.specs.wy_vc_operations.Growing.{Kept, Makes, AreAt}
 use Rattle.wy_vc_exprs.specs.Numbered.{trees_of}
 use Rattle.wy_vc_exprs.specs.Slots.{slots_of}
 use Rattle.wy_vc_exprs.proofs.NumberedLemmas.{kept_then, are_itself}

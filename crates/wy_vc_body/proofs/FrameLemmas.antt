@@ -7,7 +7,7 @@ use Rattle.wy_vc_exprs.specs.wy_vc_spec.Clauses.{Passed}
 use Rattle.wy_vc_exprs.specs.wy_vc_spec.Owed.{Owed}
 use Rattle.wy_vc_exprs.specs.wy_vc_spec.Spots.{Spot, spot, Flow}
 use Rattle.wy_vc_exprs.specs.wy_vc_spec.Variables.{Vars}
-use Rattle.wy_vc_operations.specs.Growing.{Kept}
+use Rattle.wy_vc_exprs.specs.wy_vc_operations.Growing.{Kept}
 use Rattle.wy_vc_body.specs.declared.here.Here.{Here}
 use Rattle.wy_vc_exprs.specs.Slots.{AreSlots, slots_of}
 use Rattle.wy_vc_exprs.specs.State.{Steps, owed_of}

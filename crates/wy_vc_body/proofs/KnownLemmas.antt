@@ -8,8 +8,8 @@ use Rattle.wy_vc_exprs.specs.wy_vc_spec.Joins as spec
 use Rattle.wy_vc_exprs.specs.wy_vc_spec.Making.{val_name}
 use Rattle.wy_vc_exprs.specs.wy_vc_spec.Values.{word_at}
 use Rattle.wy_vc_exprs.specs.wy_vc_spec.Variables.{Vars}
-use Rattle.wy_vc_operations.proofs.GrowingLemmas.{kept_all}
-use Rattle.wy_vc_operations.specs.Growing.{AreAt, Kept, Makes, IsSlotBelow, AreSlotsBelow}
+use Rattle.wy_vc_exprs.proofs.wy_vc_operations_proofs.GrowingLemmas.{kept_all}
+use Rattle.wy_vc_exprs.specs.wy_vc_operations.Growing.{AreAt, Kept, Makes, IsSlotBelow, AreSlotsBelow}
 use Rattle.wy_vc_exprs.specs.Slots.{AreSlots, slots_of}
 use Rattle.wy_vc_exprs.proofs.NumberedLemmas.{kept_then}
 use Rattle.wy_vc_exprs.proofs.SlotLemmas.{slots_kept, slots_on}

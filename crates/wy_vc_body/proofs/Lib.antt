@@ -37,4 +37,4 @@ pub mod ResultLemmas
 pub mod LoopLemmas
 -- passed on to the crates above
 pub use Rattle.wy_vc_exprs.proofs as wy_vc_exprs_proofs
-pub use Rattle.wy_vc_operations.proofs as wy_vc_operations_proofs
+pub use Rattle.wy_vc_exprs.proofs.wy_vc_operations_proofs as wy_vc_operations_proofs

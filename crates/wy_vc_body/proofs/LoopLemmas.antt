@@ -22,7 +22,7 @@ use Rattle.wy_vc_exprs.specs.wy_vc_spec.Statements as spec
 use Rattle.wy_vc_exprs.specs.wy_vc_spec.Values.{word_at, variable}
 use Rattle.wy_vc_exprs.specs.wy_vc_spec.Variables.{Vars, put}
 use Rattle.wy_vc_exprs.specs.wy_vc_spec.Walks as walks
-use Rattle.wy_vc_operations.specs.Growing.{Kept, Makes}
+use Rattle.wy_vc_exprs.specs.wy_vc_operations.Growing.{Kept, Makes}
 use Rattle.wy_vc_body.specs.declared.here.Here.{Here}
 use Rattle.wy_vc_exprs.specs.Slots.{AreSlots, slots_of}
 use Rattle.wy_vc_exprs.specs.State.{IsSound, Steps, Walks, hyps_of, owed_of, passed_by}

@@ -10,7 +10,7 @@ use Rattle.wy_vc_exprs.specs.wy_vc_spec.Owed.{assume}
 use Rattle.wy_vc_exprs.specs.wy_vc_spec.Clauses.{passed}
 use Rattle.wy_vc_exprs.specs.wy_vc_spec.Spots.{Spot, spot}
 use Rattle.wy_vc_exprs.specs.wy_vc_spec.Variables.{Vars}
-use Rattle.wy_vc_operations.specs.Growing.{Kept, Makes, AreAt, AreBelow}
+use Rattle.wy_vc_exprs.specs.wy_vc_operations.Growing.{Kept, Makes, AreAt, AreBelow}
 use Rattle.wy_vc_body.specs.declared.here.Here.{Here}
 use Rattle.wy_vc_exprs.specs.wy_vc_terms.declared.maker.Maker.{Maker}
 use Rattle.wy_vc_exprs.specs.Numbered.{trees_of}

@@ -7,8 +7,8 @@ use Rattle.wy_vc_exprs.specs.wy_vc_spec.Making.{equal}
 use Rattle.wy_vc_exprs.specs.wy_vc_spec.Owed.{assume}
 use Rattle.wy_vc_exprs.specs.wy_vc_spec.Clauses.{passed}
 use Rattle.wy_vc_exprs.specs.wy_vc_spec.Large.{Named, named, is_large}
-use Rattle.wy_vc_operations.proofs.GrowingLemmas.{here_kept}
-use Rattle.wy_vc_operations.specs.Growing.{Makes}
+use Rattle.wy_vc_exprs.proofs.wy_vc_operations_proofs.GrowingLemmas.{here_kept}
+use Rattle.wy_vc_exprs.specs.wy_vc_operations.Growing.{Makes}
 use Rattle.wy_vc_exprs.specs.State.{IsSound, Steps, Walks, hyps_of}
 use Rattle.wy_vc_exprs.specs.declared.walk.Walk.{Walk}
 use Rattle.wy_vc_exprs.proofs.NumberedLemmas.{at_itself}

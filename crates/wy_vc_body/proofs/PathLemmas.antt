@@ -7,8 +7,8 @@ use Rattle.wy_term.specs.Term.{Term}
 use Rattle.wy_term.specs.Nodes.{Plain, tree_at}
 use Rattle.wy_vc_exprs.specs.wy_vc_spec.Joins as spec
 use Rattle.wy_vc_exprs.specs.wy_vc_spec.Variables.{Vars, slot_at}
-use Rattle.wy_vc_operations.proofs.SlotLemmas.{slot_below}
-use Rattle.wy_vc_operations.specs.Growing.{Kept, IsSlotBelow, AreSlotsBelow}
+use Rattle.wy_vc_exprs.proofs.wy_vc_operations_proofs.SlotLemmas.{slot_below}
+use Rattle.wy_vc_exprs.specs.wy_vc_operations.Growing.{Kept, IsSlotBelow, AreSlotsBelow}
 use Rattle.wy_vc_body.proofs.MarkLemmas.{max_assoc}
 use Rattle.wy_vc_exprs.specs.Slots.{slots_of}
 use Rattle.wy_vc_exprs.proofs.NumberedLemmas.{trees_kept, below_on}

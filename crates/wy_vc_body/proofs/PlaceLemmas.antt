@@ -20,8 +20,8 @@ use Rattle.wy_vc_exprs.specs.wy_vc_spec.Sizes.{exprs_in, exprs_in_step, exprs_in
 use Rattle.wy_vc_exprs.specs.wy_vc_spec.Statements as spec
 use Rattle.wy_vc_exprs.specs.wy_vc_spec.Variables.{Vars}
 use Rattle.wy_vc_exprs.specs.wy_vc_spec.Walks.{goals_of, index_goals}
-use Rattle.wy_vc_operations.proofs.GrowingLemmas.{here_kept}
-use Rattle.wy_vc_operations.specs.Growing.{Kept, Makes}
+use Rattle.wy_vc_exprs.proofs.wy_vc_operations_proofs.GrowingLemmas.{here_kept}
+use Rattle.wy_vc_exprs.specs.wy_vc_operations.Growing.{Kept, Makes}
 use Rattle.wy_vc_exprs.specs.Owing.{passed_goals}
 use Rattle.wy_vc_exprs.specs.Slots.{AreSlots, slots_of}
 use Rattle.wy_vc_exprs.specs.State.{IsSound, Steps, Walks, hyps_of, owed_of, passed_by}

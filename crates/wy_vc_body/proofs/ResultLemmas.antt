@@ -13,7 +13,7 @@ use Rattle.wy_vc_exprs.specs.wy_vc_spec.Owed.{Owed}
 use Rattle.wy_vc_exprs.specs.wy_vc_spec.Sizes.{exprs_in_list}
 use Rattle.wy_vc_exprs.specs.wy_vc_spec.Statements as spec
 use Rattle.wy_vc_exprs.specs.wy_vc_spec.Variables.{Vars, put_if}
-use Rattle.wy_vc_operations.specs.Growing.{Kept}
+use Rattle.wy_vc_exprs.specs.wy_vc_operations.Growing.{Kept}
 use Rattle.wy_vc_exprs.specs.Slots.{AreSlots, slots_of}
 use Rattle.wy_vc_exprs.specs.State.{Steps, hyps_of, seen_goal}
 use Rattle.wy_vc_exprs.specs.declared.walk.Walk.{Walk}

@@ -1,7 +1,7 @@
 -- How steps of a body go on, by numbers of terms.
 use Rattle.std.specs.Prelude.{◌≡◌, ◌++◌, length, take, Option}
 use Rattle.wy_vc_exprs.specs.wy_vc_spec.Spots.{Flow}
-use Rattle.wy_vc_operations.specs.Growing.{Kept}
+use Rattle.wy_vc_exprs.specs.wy_vc_operations.Growing.{Kept}
 use Rattle.wy_vc_body.specs.declared.here.Here.{Here}
 use Rattle.wy_vc_exprs.specs.State.{IsSound, owed_of}
 use Rattle.wy_vc_exprs.specs.declared.walk.Walk.{Walk}

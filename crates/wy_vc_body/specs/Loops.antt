@@ -7,7 +7,7 @@ use Rattle.wy_vc_exprs.specs.wy_vc_spec.Spots.{Spot, is_set, with_hyps}
 use Rattle.wy_vc_exprs.specs.wy_vc_spec.Statements.{Body, Renewed, renewed}
 use Rattle.wy_vc_exprs.specs.wy_vc_spec.Values.{word_at, variable}
 use Rattle.wy_vc_exprs.specs.wy_vc_spec.Variables.{put}
-use Rattle.wy_vc_operations.specs.Growing.{Kept}
+use Rattle.wy_vc_exprs.specs.wy_vc_operations.Growing.{Kept}
 use Rattle.wy_vc_body.specs.declared.here.Here.{Here}
 use Rattle.wy_vc_exprs.specs.State.{IsSound, owed_of}
 use Rattle.wy_vc_exprs.specs.declared.walk.Walk.{Walk}

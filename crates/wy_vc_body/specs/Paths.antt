@@ -3,7 +3,7 @@ use Rattle.std.specs.Prelude.{◌≡◌, ℕ, List, ◌++◌, All, map, length, 
 use Rattle.wy_term.specs.Nodes.{Plain}
 use Rattle.wy_vc_exprs.specs.wy_vc_spec.Joins as spec
 use Rattle.wy_vc_exprs.specs.wy_vc_spec.Spots.{Spot, spot}
-use Rattle.wy_vc_operations.specs.Growing.{Kept, AreBelow}
+use Rattle.wy_vc_exprs.specs.wy_vc_operations.Growing.{Kept, AreBelow}
 use Rattle.wy_vc_body.specs.declared.here.Here.{Here}
 use Rattle.wy_vc_exprs.specs.Numbered.{trees_of}
 use Rattle.wy_vc_exprs.specs.Slots.{AreSlots, slots_of}

@@ -4,7 +4,7 @@ ghost use Rattle.wy_vc_exprs.specs.wy_vc_spec.Spots as spec;
 ghost use Rattle.wy_vc_exprs.specs.wy_vc_spec.Variables as slots;
 
 use std::alloc::{AllocError, Global};
-use wy_vc_operations::put;
+use wy_vc_exprs::put;
 
 /// The term of each variable that has one, by the variables' numbers, and whether each variable has a value on each path to the point.
 #[derive(Drop)]

@@ -11,8 +11,7 @@ use crate::paths::Path;
 use std::alloc::Global;
 use wy_data::Name;
 use wy_term::NoMemory;
-use wy_vc_exprs::Walk;
-use wy_vc_operations::disjunction;
+use wy_vc_exprs::{Walk, disjunction};
 
 // Behind paths that parted behind what is assumed: a new name for each variable whose terms differ, and one of the paths was taken.
 fn join(alloc: Global, walk: &mut Walk, words: &[Name], paths: &[Path]) -> Result<Here, NoMemory>

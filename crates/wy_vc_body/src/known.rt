@@ -6,7 +6,7 @@ ghost use Rattle.wy_term.specs.Nodes.{tree_at};
 ghost use Rattle.wy_term.specs.Term.{Term};
 ghost use Rattle.wy_vc_body.specs.Known.{AreNames, IsJoined, equation, known_from, one_variable, onto, path_term, renamed, seen_joined, seen_names, unnamed};
 ghost use Rattle.wy_vc_body.specs.Paths.{ArePaths, IsPath, seen_path, seen_paths};
-ghost use Rattle.wy_vc_operations.specs.Growing.{AreAt, Kept, Makes};
+ghost use Rattle.wy_vc_exprs.specs.wy_vc_operations.Growing.{AreAt, Kept, Makes};
 ghost use Rattle.wy_vc_exprs.specs.Slots.{AreSlots, slots_of};
 
 use crate::here::Here;
@@ -15,8 +15,7 @@ use crate::paths::{Path, differ, first_term, most_vars, set_on_all};
 use std::alloc::Global;
 use wy_data::Name;
 use wy_term::NoMemory;
-use wy_vc_exprs::Maker;
-use wy_vc_operations::{conjunction, equal, slot_at};
+use wy_vc_exprs::{Maker, conjunction, equal, slot_at};
 
 /// What is known behind paths of the variables that were looked at, and the new names, each by its variable and the number of its term.
 #[derive(Drop)]

@@ -36,6 +36,6 @@ pub use results::leave;
 pub use types::declared_types;
 pub use values::give;
 pub use wy_vc_exprs::{
-    Goal, Maker, Walk, assume_clauses, assume_in_type, call, type_formula, variable, walked,
-    walked_all, word_of,
+    Goal, Maker, Walk, assume_clauses, assume_in_type, call, denied, disjunction, formula, put,
+    type_formula, val_name, variable, walked, walked_all, word_of,
 };

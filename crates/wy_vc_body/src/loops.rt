@@ -22,8 +22,7 @@ use std::alloc::Global;
 use wy_core::{Core, Expr, Stmt};
 use wy_data::Name;
 use wy_term::{CondKind, NoMemory};
-use wy_vc_exprs::{Walk, assume_in_type, owe_clauses, variable, walked};
-use wy_vc_operations::{formula, put};
+use wy_vc_exprs::{Walk, assume_in_type, formula, owe_clauses, put, variable, walked};
 use wy_vc_tables::program_names::Program;
 
 fn both(a: bool, b: bool) -> bool

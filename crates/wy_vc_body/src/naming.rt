@@ -5,15 +5,14 @@ ghost use Rattle.wy_vc_exprs.specs.wy_vc_spec.Making as made;
 ghost use Rattle.wy_vc_exprs.specs.wy_vc_spec.Values.{word_at};
 ghost use Rattle.wy_term.specs.Nodes.{tree_at};
 ghost use Rattle.wy_vc_body.specs.Named.{named_walk, with_name};
-ghost use Rattle.wy_vc_operations.specs.Growing.{Makes};
+ghost use Rattle.wy_vc_exprs.specs.wy_vc_operations.Growing.{Makes};
 ghost use Rattle.wy_vc_exprs.specs.State.{IsSound, Walks, hyps_of};
 
 use crate::large::is_large;
 use std::alloc::Global;
 use wy_data::Name;
 use wy_term::NoMemory;
-use wy_vc_exprs::{Maker, Walk, word_of};
-use wy_vc_operations::{equal, val_name};
+use wy_vc_exprs::{Maker, Walk, equal, val_name, word_of};
 
 /// A new name of a variable's word.
 pub fn new_name(

@@ -4,14 +4,13 @@ ghost use Rattle.wy_vc_exprs.specs.wy_vc_spec.Joins as spec;
 ghost use Rattle.wy_vc_exprs.specs.wy_vc_spec.Variables.{slot_at as slot_of};
 ghost use Rattle.wy_term.specs.Nodes.{Plain, tree_at};
 ghost use Rattle.wy_vc_body.specs.Paths.{ArePaths, seen_paths};
-ghost use Rattle.wy_vc_operations.specs.Growing.{IsSlotBelow};
+ghost use Rattle.wy_vc_exprs.specs.wy_vc_operations.Growing.{IsSlotBelow};
 ghost use Rattle.wy_vc_exprs.specs.Slots.{AreSlots, slots_of};
 
 use crate::here::{Here, is_set};
 use std::alloc::{AllocError, Global};
 use wy_term::Terms;
-use wy_vc_exprs::Walk;
-use wy_vc_operations::slot_at;
+use wy_vc_exprs::{Walk, slot_at};
 
 /// A path that comes to a join: what it assumed since the paths parted, by the numbers of the formulas, and what is known of variables at
 /// its end.

@@ -13,7 +13,7 @@ ghost use Rattle.wy_vc_body.specs.Frames.{IsFrame, body_at};
 ghost use Rattle.wy_vc_body.specs.Going.{Went};
 ghost use Rattle.wy_vc_body.specs.Places.{Along, AreParts, IsPart, Stepping, numbered_step, seen_part, seen_parts, stepped};
 ghost use Rattle.wy_vc_body.specs.Paths.{spot_of};
-ghost use Rattle.wy_vc_operations.specs.Growing.{Makes};
+ghost use Rattle.wy_vc_exprs.specs.wy_vc_operations.Growing.{Makes};
 ghost use Rattle.wy_vc_exprs.specs.Slots.{AreSlots, slots_of};
 ghost use Rattle.wy_vc_exprs.specs.State.{IsSound, hyps_of};
 
@@ -25,8 +25,7 @@ use std::alloc::Global;
 use wy_core::{Expr, Step, StepKind};
 use wy_data::Name;
 use wy_term::{NoMemory, Terms};
-use wy_vc_exprs::{Walk, owe_index, variable, walked};
-use wy_vc_operations::{field, index, updated, updated_field};
+use wy_vc_exprs::{Walk, field, index, owe_index, updated, updated_field, variable, walked};
 
 /// A part that a step of a path leads out of, by the number of its term: an element of an array at an index, or a field of a record.
 #[derive(Drop)]

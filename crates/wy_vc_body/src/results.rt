@@ -12,8 +12,7 @@ use crate::frame::Frame;
 use std::alloc::{AllocError, Global};
 use wy_core::Output;
 use wy_term::{CondKind, NoMemory};
-use wy_vc_exprs::{Walk, owe_clauses, owe_member};
-use wy_vc_operations::put;
+use wy_vc_exprs::{Walk, owe_clauses, owe_member, put};
 
 // The result, if there is one, is in its type.
 fn owe_result(

@@ -24,4 +24,8 @@ pub use expressions::{walked, walked_all};
 pub use goal::Goal;
 pub use steps::owe_index;
 pub use walk::Walk;
+pub use wy_vc_operations::{
+    conjunction, denied, disjunction, equal, field, formula, index, put, slot_at, updated,
+    updated_field, val_name,
+};
 pub use wy_vc_terms::{Maker, type_formula, variable, word_of};

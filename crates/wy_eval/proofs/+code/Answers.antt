@@ -19,7 +19,7 @@ use Rattle.wy_eval_exprs.specs.Operands.{parts_of, seen_option}
 use Rattle.wy_eval_exprs.specs.Outcomes.{meter_of, stopped}
 use Rattle.wy_eval_exprs.specs.Scopes.{scope, store_of}
 use Rattle.wy_eval_exprs.specs.Settings.{data_in, here, turns_of}
-use Rattle.wy_eval_exprs.proofs.KindLemmas.{null_of, bool_of, int_of, var_of, call_of, neg_of, not_of, len_of, binary_of, is_of, index_of, field_of, list_of, repeat_of, record_of, quant_of}
+use Rattle.wy_eval_exprs.proofs.ExpressionKinds.{null_of, bool_of, int_of, var_of, call_of, neg_of, not_of, len_of, binary_of, is_of, index_of, field_of, list_of, repeat_of, record_of, quant_of}
 use Rattle.wy_eval_exprs.proofs.StepLemmas.{done, gives_as, spent, refused, then_gives, then_is, then_stops, after_spend, as_kind, eval_stops, array_is, record_is, no_memory}
 use Rattle.wy_eval_exprs.proofs.TurnLemmas.{values_begin, values_turn, values_refused, values_end, fields_begin, fields_turn, fields_refused, fields_end, turns_turn, turns_early, turns_refused, turns_fault, TurnsLeft}
 use Rattle.wy_eval_exprs.proofs.VisitLemmas.{each_from, turn_is, turn_refused, early_said, early_silent}

@@ -12,6 +12,10 @@ use Rattle.wy_lemmas.proofs.Choices.{or_left as first_true, or_right as second_t
 use Rattle.wy_names.proofs.resolved_lemmas.NearLemmas.{Near, near, near_on, near_plus, near_times, near_sum, near_max, near_product, raised, off, off_max, off_inside, over_root, near_raised, raised_twice, raised_not, raised_none, raised_some}
 use Rattle.wy_names.proofs.resolved_lemmas.ContentLemmas.{Usage, up, unused, both_uses, around, quantified_use, Content, one_use, empty, beside, one_node, one_quant, lift, use_put, put, Sound, same_use}
 
+pub zero_or : (n : ℕ) → (n ≡ 0) ⊎ (0 < n)
+zero_or zero = inl refl
+zero_or (suc n) = inr (omega arith)
+
 -- the parameter stands in a quantifier, by the spot or in what stands there
 abbrev pub Claims : Spot → Usage → Type 0
 Claims s x = (0 < s.times) × (((s.quantified ≡ true) × (0 < x.times)) ⊎ (0 < x.quants))
@@ -332,11 +336,6 @@ module _ (s : Spot) (at : ℕ) (u : Use) (y : Usage) (own : Uses u y) (sound : S
   there_off d (suc w) e =
       let deep : min 4097 u.depth ≡ min 4097 y.depth = own.depth.same in
       record { same = omega (arith, deep, e, rooted) }
-
-  -- a number is 0 or not
-  zero_or : (n : ℕ) → (n ≡ 0) ⊎ (0 < n)
-  zero_or zero = inl refl
-  zero_or (suc n) = inr (omega arith)
 
   no_times : y.times ≡ 0 → times s.times u.times ≡ 0
   no_times e = let z : s.times * y.times ≡ 0 = ap (λ (n : ℕ). s.times * n) e ∙ omega arith in omega (arith, there_times.same, z)

@@ -38,6 +38,7 @@ use Rattle.wy_core.specs.formed.Offers.{Offers}
 use Rattle.wy_core.specs.formed.Bound as formed
 use Rattle.wy_core.specs.formed.Calls.{CallsExpr, CallsExprs, CallsFields, Nothing}
 use Rattle.wy_core.specs.formed.Wholes.{IsQuiet, AreQuiet, FieldsQuiet}
+use Rattle.wy_names.proofs.resolved_lemmas.AfterLemmas.{zero_or}
 use Rattle.wy_names.proofs.resolved_lemmas.NotedLemmas.{noted_none}
 use Rattle.wy_names.proofs.resolved_lemmas.BindLemmas.{before_ty, before_expr, before_exprs, field_value}
 use Rattle.wy_names.proofs.resolved_lemmas.ScopeLemmas as scopes
@@ -152,10 +153,6 @@ text_silent at (b ∷ bs) = (tt, text_silent at bs)
 
 some_expr : (x y : core.Expr ℕ) → Some x ≡ Some y → x ≡ y
 some_expr x y e = cc
-
-zero_or : (n : ℕ) → (n ≡ 0) ⊎ (0 < n)
-zero_or zero = inl refl
-zero_or (suc n) = inr (omega arith)
 
 not_none : (n : ℕ) → 0 < n → not (n == 0) ≡ true
 not_none n lt = by (eqb_tells n 0)

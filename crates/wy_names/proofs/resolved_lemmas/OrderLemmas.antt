@@ -226,7 +226,7 @@ one_use s ds first second x y a b good_x good_y e way_is rest = by (is_property 
     by true is = rest (two_true (is_use_way e.way) (is_property (slice_get ds e.to)) way_is is) is
     by false is = good_x.blank e.to (none first a is) ∙ sym (good_y.blank e.to (none second b is))
 
-has_whole : (ds : List Decl) (es : Edges) (order : List ℕ) (p : ℕ) → IsOrder ds es order → is_property (slice_get ds p) ≡ true → Ends ds es p → Has order p
+pub has_whole : (ds : List Decl) (es : Edges) (order : List ℕ) (p : ℕ) → IsOrder ds es order → is_property (slice_get ds p) ≡ true → Ends ds es p → Has order p
 has_whole ds es order p ordered property end = let w = ordered.whole p property end in record { place = w.0; there = w.1 }
 
 same_ending : (s : Scope) (ds : List Decl) (first second : List ℕ) (x y : List Expansion) → IsOrder ds (edges_of s ds) first → IsOrder ds (edges_of s ds) second → Good s ds first x → Good s ds second y

@@ -11,7 +11,7 @@ use Rattle.wy_ast.specs.SurfaceTree.{Decl, Property, AliasDecl, FunctionDecl, Me
 use Rattle.wy_lemmas.proofs.Choices.{both_true as two_true}
 use Rattle.wy_lemmas.proofs.Lists.{at_within, at_first, nothing_more, at_seam, seam, at_front, at_longer, at_more}
 use Rattle.wy_lemmas.proofs.Options.{some_number_is as some_number}
-use Rattle.wy_names.proofs.resolved_lemmas.OrderLemmas.{one_property, Has, has_first, has_last, has_later, in_rest, decided, PropertyAt, property_at, used}
+use Rattle.wy_names.proofs.resolved_lemmas.OrderLemmas.{has_whole, one_property, Has, has_first, has_last, has_later, in_rest, decided, PropertyAt, property_at, used}
 use Rattle.wy_names_scope.specs.Scope.{Scope}
 use Rattle.wy_names_recursion.specs.declared.edges.Edge.{Edge}
 use Rattle.wy_names_recursion.specs.Uses.{Edges}
@@ -178,9 +178,6 @@ one_use s w ds first second x y a b good_x good_y e way_is rest = by (is_propert
     by : (t : Bool) → is_property (slice_get ds e.to) ≡ t → slice_get x e.to ≡ slice_get y e.to
     by true is = rest (two_true (is_use_way e.way) (is_property (slice_get ds e.to)) way_is is) is
     by false is = good_x.blank e.to (none first a is) ∙ sym (good_y.blank e.to (none second b is))
-
-has_whole : (ds : List Decl) (es : Edges) (order : List ℕ) (p : ℕ) → IsOrder ds es order → is_property (slice_get ds p) ≡ true → Ends ds es p → Has order p
-has_whole ds es order p ordered property end = let w = ordered.whole p property end in record { place = w.0; there = w.1 }
 
 same_ending : (s : Scope) (w : List Expansion) (ds : List Decl) (first second : List ℕ) (x y : List Template) → IsOrder ds (edges_of s ds) first → IsOrder ds (edges_of s ds) second → Good s w ds first x → Good s w ds second y
     → (p : ℕ) → Ends ds (edges_of s ds) p → is_property (slice_get ds p) ≡ true → slice_get x p ≡ slice_get y p

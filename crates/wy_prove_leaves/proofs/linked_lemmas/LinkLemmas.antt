@@ -13,8 +13,8 @@ use Rattle.wy_facts.specs.Seen.{Stays}
 use Rattle.wy_facts.proofs.StepLemmas.{terms_kept}
 use Rattle.wy_prove_drafts.specs.wy_check_spec.judge.Node.{Node, has_formula}
 use Rattle.wy_search_spec.specs.least.Least.{IsAmong}
-use Rattle.wy_cong.specs.declared.present.Present.{Present}
-use Rattle.wy_cong.specs.Seen.{IsPresent}
+use Rattle.wy_prove_drafts.specs.wy_cong.declared.present.Present.{Present}
+use Rattle.wy_prove_drafts.specs.wy_cong.Seen.{IsPresent}
 use Rattle.wy_prove_drafts.specs.wy_check_laws.sound.Sortedness.{AreSortedTerms}
 use Rattle.wy_prove_drafts.proofs.wy_search_laws_proofs.chains_lemmas.KindLemmas.{formula_first, formula_later}
 use Rattle.wy_prove_drafts.specs.Progress.{Progress}

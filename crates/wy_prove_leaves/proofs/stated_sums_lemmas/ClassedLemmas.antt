@@ -3,7 +3,7 @@ use Rattle.std.proofs.Common.{◌∙◌, List}
 use Rattle.wy_term.specs.Nodes.{Plain}
 use Rattle.wy_facts.specs.Seen.{Stays}
 use Rattle.wy_prove_drafts.specs.wy_check_spec.judge.Node.{Node}
-use Rattle.wy_search_bounds.proofs.GatherLemmas.{present_stays, terms_stay}
+use Rattle.wy_prove_drafts.proofs.wy_search_bounds_proofs.GatherLemmas.{present_stays, terms_stay}
 use Rattle.wy_prove_leaves.specs.declared.stated_sums.classed.Classed.{Classed}
 use Rattle.wy_prove_leaves.specs.stated_sums.Classed.{IsClassed}
 

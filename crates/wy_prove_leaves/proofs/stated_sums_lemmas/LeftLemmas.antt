@@ -2,7 +2,7 @@
 use Rattle.std.proofs.Common.{◌≡◌, ◌∙◌, ◌||◌, ◌+◌, ◌<◌, ℕ, zero, suc, List, [], ◌∷◌, ◌++◌, map, drop, length, Bool, true, false, Option, Some, None, refl, sym, ap, subst, append_assoc, arith}
 use Rattle.std.specs.Prelude.{slice_get}
 use Rattle.std.proofs.lemmas.List.{append-nil}
-use Rattle.wy_search_bounds.proofs.GatherLemmas.{forms_last}
+use Rattle.wy_prove_drafts.proofs.wy_search_bounds_proofs.GatherLemmas.{forms_last}
 use Rattle.wy_lemmas.proofs.Choices.{or_none as or_end, or_true as or_so, or_regrouped as or_assoc}
 use Rattle.wy_term.specs.Term.{Term}
 use Rattle.wy_term.specs.Condition.{Entry}
@@ -12,7 +12,7 @@ use Rattle.wy_lin.specs.Seen.{linear_form}
 use Rattle.wy_lin.specs.declared.linear.Form.{Form}
 use Rattle.wy_term.specs.Nodes.{Plain}
 use Rattle.wy_prove_drafts.specs.wy_check_spec.judge.Node.{Literal, Node, has_literal}
-use Rattle.wy_check_nodes.specs.Seen.{seen_literal}
+use Rattle.wy_prove_drafts.specs.wy_check_nodes.Seen.{seen_literal}
 use Rattle.wy_prove_drafts.specs.wy_check_spec.valid.Literals.{formula_of}
 use Rattle.wy_search_spec.specs.Standing.{present}
 use Rattle.wy_search_spec.specs.Classes.{classes}

@@ -15,8 +15,8 @@ use Rattle.wy_prove_drafts.specs.wy_check_spec.valid.Validity.{after, closed}
 use Rattle.wy_lin_eliminate.specs.Division.{common, lowered}
 use Rattle.wy_lin_eliminate.proofs.ValidityLemmas.{common-divides, common-bare}
 use Rattle.wy_search_spec.specs.Bounds.{named_from, all_fit, stated_sum, gone, given, refutes, by_two, by_common, by_sum, replaced_by}
-use Rattle.wy_search_bounds.specs.declared.removal.Taking.{Taking}
-use Rattle.wy_search_bounds.specs.Seen.{seen_taking, seen_takings}
+use Rattle.wy_prove_drafts.specs.wy_search_bounds.declared.removal.Taking.{Taking}
+use Rattle.wy_prove_drafts.specs.wy_search_bounds.Seen.{seen_taking, seen_takings}
 use Rattle.wy_prove_drafts.specs.Progress.{Progress, Closes}
 use Rattle.wy_prove_drafts.proofs.ProgressLemmas.{closes_ends}
 use Rattle.wy_prove_drafts.proofs.wy_search_laws_proofs.sums_lemmas.TwiceLemmas.{doubled_bare, doubled_even}

@@ -5,8 +5,8 @@ use Rattle.wy_term.specs.Nodes.{Plain, tree_at}
 use Rattle.wy_prove_drafts.specs.wy_check_spec.judge.Node.{Node}
 use Rattle.wy_search_spec.specs.Classes.{in_one_class}
 use Rattle.wy_search_spec.specs.least.Least.{IsAmong}
-use Rattle.wy_cong.specs.Seen.{terms_of}
-use Rattle.wy_cong.specs.declared.present.Present.{Present}
+use Rattle.wy_prove_drafts.specs.wy_cong.Seen.{terms_of}
+use Rattle.wy_prove_drafts.specs.wy_cong.declared.present.Present.{Present}
 use Rattle.wy_prove_drafts.specs.wy_check_laws.sound.Sortedness.{AreSortedTerms}
 use Rattle.wy_prove_leaves.specs.linked.Grown.{AddsNothing}
 

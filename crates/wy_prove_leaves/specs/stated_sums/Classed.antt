@@ -4,7 +4,7 @@ use Rattle.wy_term.specs.Nodes.{Plain, tree_at}
 use Rattle.wy_prove_drafts.specs.wy_check_spec.judge.Node.{Node}
 use Rattle.wy_search_spec.specs.Standing as standing
 use Rattle.wy_search_spec.specs.Classes.{classes}
-use Rattle.wy_cong.specs.Seen.{terms_of, IsPresent}
+use Rattle.wy_prove_drafts.specs.wy_cong.Seen.{terms_of, IsPresent}
 use Rattle.wy_prove_leaves.specs.declared.stated_sums.classed.Classed.{Classed}
 
 -- they are those of this node

@@ -1,13 +1,12 @@
 //! The terms present in a node, and their classes.
 ghost use Rattle.std.specs.Prelude.{◌≡◌, IfOk};
-ghost use Rattle.wy_cong.specs.Seen.{terms_of, IsPresent};
-ghost use Rattle.wy_check_nodes.specs.Seen.{seen_branch, IsBranch};
+ghost use Rattle.wy_prove_drafts.specs.wy_cong.Seen.{terms_of, IsPresent};
+ghost use Rattle.wy_prove_drafts.specs.wy_check_nodes.Seen.{seen_branch, IsBranch};
 ghost use Rattle.wy_search_spec.specs.Classes as search;
 ghost use Rattle.wy_search_spec.specs.Standing.{present};
 ghost use Rattle.wy_term.specs.Nodes.{tree_at};
 
-use wy_check_nodes::Branch;
-use wy_cong::{Present, classes, terms_present};
+use wy_prove_drafts::{Branch, Present, classes, terms_present};
 use wy_term::{NoMemory, Terms};
 
 /// The terms present in a node, and a label of the class of each.

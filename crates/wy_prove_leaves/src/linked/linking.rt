@@ -2,7 +2,7 @@
 ghost use Rattle.std.specs.Prelude.{List, IfOk, OnOk};
 ghost use Rattle.wy_prove_drafts.specs.Draft.{IsDraft, seen_draft};
 ghost use Rattle.wy_facts.specs.Seen.{Stays};
-ghost use Rattle.wy_check_nodes.specs.Seen.{seen_branch, IsBranch};
+ghost use Rattle.wy_prove_drafts.specs.wy_check_nodes.Seen.{seen_branch, IsBranch};
 ghost use Rattle.wy_prove_leaves.specs.linked.Linked.{IsBase, LinksOrEnds};
 ghost use Rattle.wy_term.specs.Condition.{Entry};
 ghost use Rattle.wy_term.specs.Nodes.{tree_at};
@@ -10,8 +10,7 @@ ghost use Rattle.wy_term.specs.Nodes.{tree_at};
 use crate::linked::clashing::close_at_once;
 use crate::linked::labelled::labelled_terms;
 use crate::linked::rounds::saturate;
-use wy_check_nodes::Branch;
-use wy_prove_drafts::Draft;
+use wy_prove_drafts::{Branch, Draft};
 use wy_search_spec::least::classes_are_least;
 use wy_term::{NoMemory, Terms};
 

@@ -1,6 +1,6 @@
 //! Rounds of chains.
 ghost use Rattle.std.specs.Prelude.{List, OnOk};
-ghost use Rattle.wy_cong.specs.Seen.{IsPresent};
+ghost use Rattle.wy_prove_drafts.specs.wy_cong.Seen.{IsPresent};
 ghost use Rattle.wy_prove_drafts.specs.Draft.{IsDraft, seen_draft};
 ghost use Rattle.wy_prove_drafts.specs.Progress.{Goes};
 ghost use Rattle.wy_facts.specs.Seen.{Stays};

@@ -1,6 +1,6 @@
 //! Chains between terms of one class.
 ghost use Rattle.std.specs.Prelude.{◌<◌, List, IfOk, OnOk, length};
-ghost use Rattle.wy_cong.specs.Seen.{IsPresent};
+ghost use Rattle.wy_prove_drafts.specs.wy_cong.Seen.{IsPresent};
 ghost use Rattle.wy_prove_drafts.specs.Draft.{IsDraft, seen_draft};
 ghost use Rattle.wy_facts.specs.Seen.{Stays};
 ghost use Rattle.wy_prove_leaves.specs.linked.Grown.{Grows};
@@ -12,8 +12,7 @@ ghost use Rattle.wy_term.specs.Term.{Term};
 use crate::linked::chains::link;
 use crate::linked::labelled::Labelled;
 use crate::linked::thirds::link_thirds;
-use wy_cong::in_one_class;
-use wy_prove_drafts::Draft;
+use wy_prove_drafts::{Draft, in_one_class};
 use wy_term::{NoMemory, Terms};
 
 // The chains of two terms, and of these and a third one, if they are of one class. Says whether they added anything.

@@ -1,6 +1,6 @@
 //! Chains of three terms of one class.
 ghost use Rattle.std.specs.Prelude.{◌<◌, List, IfOk, OnOk, length};
-ghost use Rattle.wy_cong.specs.Seen.{IsPresent};
+ghost use Rattle.wy_prove_drafts.specs.wy_cong.Seen.{IsPresent};
 ghost use Rattle.wy_prove_drafts.specs.Draft.{IsDraft, seen_draft};
 ghost use Rattle.wy_facts.specs.Seen.{Stays};
 ghost use Rattle.wy_prove_leaves.specs.linked.Grown.{Grows};
@@ -11,8 +11,7 @@ ghost use Rattle.wy_term.specs.Term.{Term};
 
 use crate::linked::chains::link;
 use crate::linked::labelled::Labelled;
-use wy_cong::in_one_class;
-use wy_prove_drafts::Draft;
+use wy_prove_drafts::{Draft, in_one_class};
 use wy_term::{NoMemory, Terms};
 
 // The chain of three terms, if the last two are of one class. Says whether it added anything.

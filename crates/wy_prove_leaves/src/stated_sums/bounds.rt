@@ -1,7 +1,7 @@
 //! The literals that are bounds between variables.
 ghost use Rattle.std.specs.Prelude.{◌≡◌, ◌<◌, length, option_map, IfOk};
-ghost use Rattle.wy_search_bounds.specs.Seen.{seen_takings};
-ghost use Rattle.wy_cong.specs.Seen.{terms_of, IsPresent};
+ghost use Rattle.wy_prove_drafts.specs.wy_search_bounds.Seen.{seen_takings};
+ghost use Rattle.wy_prove_drafts.specs.wy_cong.Seen.{terms_of, IsPresent};
 ghost use Rattle.wy_prove_drafts.specs.Draft.{IsDraft, seen_draft};
 ghost use Rattle.wy_facts.specs.Made.{is_at_most};
 ghost use Rattle.wy_facts.specs.Seen.{Stays};
@@ -13,11 +13,9 @@ ghost use Rattle.wy_prove_leaves.specs.stated_sums.Replacing.{AreBounds, AreSumm
 ghost use Rattle.wy_term.specs.Nodes.{tree_at};
 ghost use Rattle.wy_term.specs.Term.{two, at_most};
 
-use wy_cong::Present;
 use wy_items::at;
 use wy_lin::Form;
-use wy_prove_drafts::{Draft, literal_number};
-use wy_search_bounds::Taking;
+use wy_prove_drafts::{Draft, Present, Taking, literal_number};
 use wy_term::{NoMemory, Node, Terms};
 
 // The number of the literal `lower <= upper`, if it is there.

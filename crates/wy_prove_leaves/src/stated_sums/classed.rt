@@ -1,11 +1,10 @@
 //! The classes of a node.
 ghost use Rattle.std.specs.Prelude.{IfOk};
-ghost use Rattle.wy_check_nodes.specs.Seen.{seen_branch, IsBranch};
+ghost use Rattle.wy_prove_drafts.specs.wy_check_nodes.Seen.{seen_branch, IsBranch};
 ghost use Rattle.wy_prove_leaves.specs.stated_sums.Classed.{IsClassed};
 ghost use Rattle.wy_term.specs.Nodes.{tree_at};
 
-use wy_check_nodes::Branch;
-use wy_cong::{Present, classes, terms_present};
+use wy_prove_drafts::{Branch, Present, classes, terms_present};
 use wy_term::{NoMemory, Terms};
 
 /// The terms present in a node, and the label of each one's class.

@@ -7,9 +7,8 @@ ghost use Rattle.wy_term.specs.Condition.{Entry};
 ghost use Rattle.wy_term.specs.Nodes.{tree_at};
 
 use crate::stated_sums::pairs::twice;
-use wy_check_nodes::{cut_stated, form_of_sum};
 use wy_lin_eliminate::common;
-use wy_prove_drafts::{Draft, literal_number, write_cut};
+use wy_prove_drafts::{Draft, cut_stated, form_of_sum, literal_number, write_cut};
 use wy_term::{NoMemory, Terms};
 
 /// Writes a cut, unless the literal that it states is there. The number of that literal, where there is one.

@@ -1,10 +1,10 @@
 //! The forms of a node's literals, stated.
 ghost use Rattle.std.specs.Prelude.{◌≡◌, ◌<◌, ◌+◌, ◌∷◌, ◌++◌, [], List, true, Some, length, slice_get, IfOk, OnOk};
-ghost use Rattle.wy_cong.specs.Seen.{IsPresent};
+ghost use Rattle.wy_prove_drafts.specs.wy_cong.Seen.{IsPresent};
 ghost use Rattle.wy_prove_drafts.specs.Draft.{IsDraft, seen_draft};
 ghost use Rattle.wy_facts.specs.Seen.{Stays};
 ghost use Rattle.wy_prove_drafts.specs.wy_check_spec.judge.Node as judge;
-ghost use Rattle.wy_check_nodes.specs.Seen.{seen_branch, seen_literal, IsBranch};
+ghost use Rattle.wy_prove_drafts.specs.wy_check_nodes.Seen.{seen_branch, seen_literal, IsBranch};
 ghost use Rattle.wy_lin.specs.Seen.{linear_form, seen_form, IsOver};
 ghost use Rattle.wy_lin.specs.TermForm.{form_of_literal};
 ghost use Rattle.wy_search_spec.specs.Bounds as bounds;
@@ -17,10 +17,10 @@ ghost use Rattle.wy_prove_drafts.specs.wy_check_spec.valid.Literals.{formula_of}
 use crate::stated_sums::classed::Classed;
 use crate::stated_sums::stated::{Stated, Turn};
 use crate::stated_sums::taking::take;
-use wy_check_nodes::{Branch, form_at, nth_literal};
 use wy_lin::Form;
-use wy_prove_drafts::{Draft, literal_number};
-use wy_search_bounds::{numbered, replace, takings};
+use wy_prove_drafts::{
+    Branch, Draft, form_at, literal_number, nth_literal, numbered, replace, takings,
+};
 use wy_term::{NoMemory, Terms};
 
 // The number of the literal with a place from 0.

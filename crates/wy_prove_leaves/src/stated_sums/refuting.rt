@@ -3,7 +3,7 @@ ghost use Rattle.std.specs.Prelude.{List, IfOk, OnOk};
 ghost use Rattle.wy_prove_drafts.specs.Draft.{IsDraft, seen_draft};
 ghost use Rattle.wy_facts.specs.Seen.{Stays};
 ghost use Rattle.wy_prove_drafts.specs.wy_check_spec.judge.Node.{Node};
-ghost use Rattle.wy_check_nodes.specs.Seen.{seen_branch, IsBranch};
+ghost use Rattle.wy_prove_drafts.specs.wy_check_nodes.Seen.{seen_branch, IsBranch};
 ghost use Rattle.wy_prove_leaves.specs.linked.Linked.{AreLinkedClasses, IsBase};
 ghost use Rattle.wy_search_spec.specs.Bounds as bounds;
 ghost use Rattle.wy_search_spec.specs.Classes.{classes};
@@ -17,9 +17,8 @@ use crate::stated_sums::classed::classes_of;
 use crate::stated_sums::literals::take_literal;
 use crate::stated_sums::stated::{Stated, Turn, nothing_stated};
 use crate::stated_sums::steps::write_steps;
-use wy_check_nodes::Branch;
 use wy_lin_eliminate::{Elim, eliminate};
-use wy_prove_drafts::Draft;
+use wy_prove_drafts::{Branch, Draft};
 use wy_term::{NoMemory, Terms};
 
 // Writes the steps by which elimination refutes the forms of a node, where all are stated, and says whether it did.

@@ -1,7 +1,7 @@
 //! What replacing leaves of a form, stated.
 ghost use Rattle.std.specs.Prelude.{◌≡◌, ◌∷◌, ◌++◌, [], ℕ, List, IfOk, OnOk};
-ghost use Rattle.wy_search_bounds.specs.Seen.{seen_replaced, seen_takings};
-ghost use Rattle.wy_cong.specs.Seen.{terms_of, IsPresent};
+ghost use Rattle.wy_prove_drafts.specs.wy_search_bounds.Seen.{seen_replaced, seen_takings};
+ghost use Rattle.wy_prove_drafts.specs.wy_cong.Seen.{terms_of, IsPresent};
 ghost use Rattle.wy_prove_drafts.specs.Draft.{IsDraft, seen_draft};
 ghost use Rattle.wy_facts.specs.Seen.{Stays};
 ghost use Rattle.wy_prove_drafts.specs.wy_check_spec.judge.Node as judge;
@@ -17,9 +17,7 @@ ghost use Rattle.wy_term.specs.Nodes.{tree_at};
 use crate::stated_sums::bounds::summands;
 use crate::stated_sums::cutting::state_divided;
 use crate::stated_sums::stated::{Stated, Turn};
-use wy_cong::Present;
-use wy_prove_drafts::{Draft, close_by_sum};
-use wy_search_bounds::{Replaced, Taking};
+use wy_prove_drafts::{Draft, Present, Replaced, Taking, close_by_sum};
 use wy_term::{NoMemory, Terms};
 
 // The number of a literal with the form that is left of one by bounds: that literal, where there are none, or that of a cut.

@@ -17,8 +17,8 @@ use Rattle.wy_search_bounds.specs.wy_lin.Linear.{◌>>=◌}
 use Rattle.wy_search_bounds.specs.wy_check_spec.valid.Literals.{has_atom, literal_at, are_joined, are_alike, is_chain}
 use Rattle.wy_search_bounds.specs.wy_check_spec.valid.Kinds.{are_apart, clashes_alone, Kinded, in_two_kinds, in_one_kind, clash_together}
 use Rattle.wy_search_bounds.specs.wy_check_spec.valid.Validity.{closed, after}
-use Rattle.wy_search_spec.specs.Standing.{present}
-use Rattle.wy_search_spec.specs.Classes.{in_one_class, classes, denies_equal, any_denies, constants_apart, any_apart, kind_by, kinds_by, own_kind, own_kinds, kinds_with, any_kinds, clashes}
+use Rattle.wy_search_bounds.specs.wy_search_spec.Standing.{present}
+use Rattle.wy_search_bounds.specs.wy_search_spec.Classes.{in_one_class, classes, denies_equal, any_denies, constants_apart, any_apart, kind_by, kinds_by, own_kind, own_kinds, kinds_with, any_kinds, clashes}
 use Rattle.wy_search_bounds.proofs.wy_check_laws_proofs.sound_lemmas.Basics.{or_cases}
 use Rattle.wy_search_bounds.proofs.wy_check_laws_proofs.sound_lemmas.NodeLemmas.{AreSortedLiterals, IsSortedNode}
 use Rattle.wy_search_bounds.specs.wy_check_laws.sound.Sortedness.{AreSortedTerms, IsSortedStep, AreSortedSteps}

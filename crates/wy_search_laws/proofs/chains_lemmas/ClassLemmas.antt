@@ -9,11 +9,11 @@ use Rattle.wy_search_bounds.proofs.wy_term_proofs.SameLemmas.{terms_are}
 use Rattle.wy_search_bounds.specs.wy_term_subst.sorted.Sorted.{IsSorted}
 use Rattle.wy_search_bounds.specs.wy_check_spec.judge.Node.{Literal, Node, same_literal, has_literal, has_formula}
 use Rattle.wy_search_bounds.specs.wy_check_spec.valid.Literals.{are_joined, arguments_joined, are_alike, is_chain, last_of}
-use Rattle.wy_search_spec.specs.Standing.{is_term_sort, only_terms, standing, present}
-use Rattle.wy_search_spec.specs.Classes.{place_from, label_of, same_label, in_one_class, classes}
-use Rattle.wy_search_spec.specs.least.Least.{IsAmong}
-use Rattle.wy_search_spec.proofs.least_lemmas.PlaceLemmas.{among}
-use Rattle.wy_search_spec.proofs.least_lemmas.SoundLemmas.{ArePair, ArePairs, Relates, related_classes}
+use Rattle.wy_search_bounds.specs.wy_search_spec.Standing.{is_term_sort, only_terms, standing, present}
+use Rattle.wy_search_bounds.specs.wy_search_spec.Classes.{place_from, label_of, same_label, in_one_class, classes}
+use Rattle.wy_search_bounds.specs.wy_search_spec.least.Least.{IsAmong}
+use Rattle.wy_search_bounds.proofs.wy_search_spec_proofs.least_lemmas.PlaceLemmas.{among}
+use Rattle.wy_search_bounds.proofs.wy_search_spec_proofs.least_lemmas.SoundLemmas.{ArePair, ArePairs, Relates, related_classes}
 use Rattle.wy_search_bounds.specs.wy_check_laws.sound.Sortedness.{AreSortedTerms}
 use Rattle.wy_search_bounds.proofs.wy_check_laws_proofs.sound_lemmas.MadeLemmas.{IsFormula}
 use Rattle.wy_search_bounds.proofs.wy_check_laws_proofs.sound_lemmas.ChainLemmas.{ends_sorts}

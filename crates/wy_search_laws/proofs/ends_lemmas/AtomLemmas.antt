@@ -11,7 +11,7 @@ use Rattle.wy_search_bounds.specs.wy_check_spec.judge.Node.{Literal, Node, added
 use Rattle.wy_search_bounds.specs.wy_check_spec.judge.Judgement.{judged, of_atom}
 use Rattle.wy_search_bounds.specs.wy_check_laws.sound.Sortedness.{AreFormulas}
 use Rattle.wy_search_bounds.proofs.wy_check_laws_proofs.sound_lemmas.MadeLemmas.{IsFormula}
-use Rattle.wy_search_spec.specs.Splitting.{atoms_in, atoms_in_parts, atoms_of, decides, first_forced, first_open, first_undecided, is_forced, is_open, joined_atoms, next_atom, or_else}
+use Rattle.wy_search_bounds.specs.wy_search_spec.Splitting.{atoms_in, atoms_in_parts, atoms_of, decides, first_forced, first_open, first_undecided, is_forced, is_open, joined_atoms, next_atom, or_else}
 
 -- ---- atoms are formulas that are taken apart no further
 

@@ -5,11 +5,11 @@ use Rattle.wy_search_bounds.specs.wy_term.Term.{Term}
 use Rattle.wy_search_bounds.specs.wy_term.Condition.{Entry}
 use Rattle.wy_search_bounds.specs.wy_check_spec.judge.Node.{added, denied_one}
 use Rattle.wy_search_bounds.specs.wy_check_spec.valid.Literals.{is_shut}
-use Rattle.wy_search_spec.specs.Classes.{clashes}
-use Rattle.wy_search_spec.specs.Bounds.{Ending, consistent, crowded, ending, refuted, wide}
-use Rattle.wy_search_spec.specs.Splitting.{next_atom}
-use Rattle.wy_search_spec.specs.Expansion.{Spot, expanded, with_node}
-use Rattle.wy_search_spec.specs.Tree.{Next, Verdict, by_ending, closed, follows, found, goes_on, is_more, next, on_atom, on_expansion, open_leaf, searched, spent, splits, stays_open, why_open}
+use Rattle.wy_search_bounds.specs.wy_search_spec.Classes.{clashes}
+use Rattle.wy_search_bounds.specs.wy_search_spec.Bounds.{Ending, consistent, crowded, ending, refuted, wide}
+use Rattle.wy_search_bounds.specs.wy_search_spec.Splitting.{next_atom}
+use Rattle.wy_search_bounds.specs.wy_search_spec.Expansion.{Spot, expanded, with_node}
+use Rattle.wy_search_bounds.specs.wy_search_spec.Tree.{Next, Verdict, by_ending, closed, follows, found, goes_on, is_more, next, on_atom, on_expansion, open_leaf, searched, spent, splits, stays_open, why_open}
 use Rattle.wy_search_bounds.proofs.wy_check_laws_proofs.sound_lemmas.NodeLemmas.{IsSortedNode, added_sorted, denied_sorted}
 use Rattle.wy_search_laws.proofs.ends_lemmas.AtomLemmas.{splits_less, undecided}
 

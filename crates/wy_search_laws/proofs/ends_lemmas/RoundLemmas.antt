@@ -2,8 +2,8 @@
 use Rattle.std.proofs.Common.{List}
 use Rattle.wy_search_bounds.specs.wy_term.Condition.{Entry}
 use Rattle.wy_search_bounds.specs.wy_term.Unfolding.{AreClosed}
-use Rattle.wy_search_spec.specs.Expansion.{Spot, expanded, index_terms, with_facts, with_instances, with_products, with_witnesses}
-use Rattle.wy_search_spec.specs.Tree.{first_spot}
+use Rattle.wy_search_bounds.specs.wy_search_spec.Expansion.{Spot, expanded, index_terms, with_facts, with_instances, with_products, with_witnesses}
+use Rattle.wy_search_bounds.specs.wy_search_spec.Tree.{first_spot}
 use Rattle.wy_search_bounds.specs.wy_check_laws.sound.Sortedness.{AreSortedEntries}
 use Rattle.wy_search_bounds.proofs.wy_check_laws_proofs.sound_lemmas.NodeLemmas.{IsSortedNode, first_sorted}
 use Rattle.wy_search_laws.proofs.sound_lemmas.StandingLemmas.{indices_sorted}

@@ -1,7 +1,7 @@
 -- Where the node behind a round of the search can be closed, so can the one before it.
 use Rattle.std.proofs.Common.{List}
 use Rattle.wy_search_bounds.specs.wy_term.Condition.{Entry}
-use Rattle.wy_search_spec.specs.Expansion.{Spot, with_witnesses, index_terms, with_instances, with_facts, expanded}
+use Rattle.wy_search_bounds.specs.wy_search_spec.Expansion.{Spot, with_witnesses, index_terms, with_instances, with_facts, expanded}
 use Rattle.wy_search_bounds.proofs.wy_check_laws_proofs.sound_lemmas.NodeLemmas.{IsSortedNode}
 use Rattle.wy_search_laws.proofs.closing_lemmas.Closing.{IsFoldedNode, LeadsOn}
 use Rattle.wy_search_laws.proofs.rounds_lemmas.RoundLemmas.{Grows, grows_on, facts_grow, instances_grow, witnesses_grow}

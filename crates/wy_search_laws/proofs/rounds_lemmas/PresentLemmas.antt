@@ -7,8 +7,8 @@ use Rattle.wy_search_bounds.specs.wy_term_subst.sorted.Sorted.{Places, behind, p
 use Rattle.wy_search_bounds.specs.wy_term_text.reread.Folded.{IsFolded, AreFolded}
 use Rattle.wy_search_bounds.specs.wy_check_spec.judge.Node.{Literal, Node, has_formula}
 use Rattle.wy_search_bounds.specs.wy_check_spec.valid.Ranges.{is_int}
-use Rattle.wy_search_spec.specs.Standing.{Standing, bound_by, part_at, all_parts, below, standing_in, standing_in_parts, have_common, with_unbound, in_literals, in_formulas, standing}
-use Rattle.wy_search_spec.specs.Expansion.{among, only_int}
+use Rattle.wy_search_bounds.specs.wy_search_spec.Standing.{Standing, bound_by, part_at, all_parts, below, standing_in, standing_in_parts, have_common, with_unbound, in_literals, in_formulas, standing}
+use Rattle.wy_search_bounds.specs.wy_search_spec.Expansion.{among, only_int}
 use Rattle.wy_search_bounds.specs.wy_check_laws.sound.Sortedness.{AreFormulas, AreSortedTerms}
 use Rattle.wy_search_bounds.proofs.wy_check_laws_proofs.sound_lemmas.NodeLemmas.{AreSortedLiterals, IsSortedNode}
 use Rattle.wy_search_laws.proofs.closing_lemmas.Closing.{AreFoldedLiterals, AreFoldedTerms, IsFoldedNode}

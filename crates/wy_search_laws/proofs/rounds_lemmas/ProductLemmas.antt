@@ -19,11 +19,12 @@ use Rattle.wy_search_bounds.specs.wy_check_spec.valid.Literals.{formula_of}
 use Rattle.wy_search_bounds.specs.wy_check_spec.valid.Sums.{all_zero}
 use Rattle.wy_search_bounds.specs.wy_check_spec.valid.Products.{Affine, affine, as_product, product_of}
 use Rattle.wy_search_bounds.specs.wy_check_spec.valid.Validity.{left_with_one}
-use Rattle.wy_search_spec.specs.Standing.{standing}
-use Rattle.wy_search_spec.specs.Expansion.{with_some, tighter, with_bound, bound_by_literal, best_bound, bound_of, with_product, with_four, with_forms, with_products_of, with_products_by, with_products}
+use Rattle.wy_search_bounds.specs.wy_search_spec.Standing.{standing}
+use Rattle.wy_search_bounds.specs.wy_search_spec.Expansion.{with_some, tighter, with_bound, bound_by_literal, best_bound, bound_of, with_product, with_four, with_forms, with_products_of, with_products_by, with_products}
 use Rattle.wy_search_bounds.specs.wy_check_laws.sound.Sortedness.{AreSortedTerms}
 use Rattle.wy_search_bounds.proofs.wy_check_laws_proofs.sound_lemmas.NodeLemmas.{IsSortedNode}
 use Rattle.wy_search_laws.specs.closing.AtLeast.{IsAtLeast}
+use Rattle.wy_search_laws.proofs.closing_lemmas.BestLemmas.{IsBest, best_with, best_found}
 use Rattle.wy_search_laws.proofs.closing_lemmas.AtLeastLemmas.{stands_at, literal_self}
 use Rattle.wy_search_laws.proofs.closing_lemmas.Closing.{AreFoldedTerms, IsFoldedNode, LeadsOn}
 use Rattle.wy_search_laws.proofs.rounds_lemmas.FoldedMade.{product_folded}
@@ -40,36 +41,16 @@ record IsOf (all : List Literal) (f : Linear Term) (x : Affine) : Type 0 where
   is : form_of_literal (formula_of literal) ≡ Some form
   affine_is : affine f form ≡ Some x
 
-abbrev IsBest : List Literal → Linear Term → Option (Affine × ℤ) → Type 0
-IsBest all f None = Unit {0}
-IsBest all f (Some b) = IsOf all f b.0
-
 module _ (all : List Literal) (f : Linear Term) where
-  best_tighter : (best : Option (Affine × ℤ)) (x : Affine) (at : ℤ) → IsBest all f best → IsOf all f x → IsBest all f (tighter best x at)
-  best_tighter None x at h g = g
-  best_tighter (Some b) x at h g = by (int_lt at b.1)
-    where
-      by : (c : Bool) → IsBest all f (cond c (Some (x, at)) (Some b))
-      by true = g
-      by false = h
-
-  best_with : (side : Bool) (best : Option (Affine × ℤ)) (o : Option Affine) → IsBest all f best → ((x : Affine) → o ≡ Some x → IsOf all f x) → IsBest all f (with_bound side best o)
-  best_with side best None h g = h
-  best_with side best (Some x) h g = by (beq (int_lt (pos 0) x.factor) side)
-    where
-      by : (c : Bool) → IsBest all f (cond c (tighter best x (quotient_down x.more (unsigned_abs x.factor))) best)
-      by true = best_tighter best x (quotient_down x.more (unsigned_abs x.factor)) h (g x refl)
-      by false = h
-
   by_literal : (l : Literal) (x : Affine) → has_literal all l ≡ true → bound_by_literal f l ≡ Some x → IsOf all f x
   by_literal l x has e =
       let h = bind_some (form_of_literal (formula_of l)) (λ h. affine f h) x e in
       record { literal = l; there = has; form = h.0; is = h.1; affine_is = h.2 }
 
-  best_is : (side : Bool) (best : Option (Affine × ℤ)) (ls : List Literal) → ((l : Literal) → has_literal ls l ≡ true → has_literal all l ≡ true) → IsBest all f best → IsBest all f (best_bound side f best ls)
+  best_is : (side : Bool) (best : Option (Affine × ℤ)) (ls : List Literal) → ((l : Literal) → has_literal ls l ≡ true → has_literal all l ≡ true) → IsBest (IsOf all f) best → IsBest (IsOf all f) (best_bound side f best ls)
   best_is side best [] among h = h
   best_is side best (l ∷ ls) among h =
-      best_is side (with_bound side best (bound_by_literal f l)) ls (λ k e. among k (behind k e)) (best_with side best (bound_by_literal f l) h (λ x e. by_literal l x (among l front) e))
+      best_is side (with_bound side best (bound_by_literal f l)) ls (λ k e. among k (behind k e)) (best_with (IsOf all f) side best (bound_by_literal f l) h (λ x e. by_literal l x (among l front) e))
     where
       front : has_literal (l ∷ ls) l ≡ true
       front = ap (λ (b : Bool). cond b true (has_literal ls l)) (literal_self l)
@@ -81,12 +62,8 @@ module _ (all : List Literal) (f : Linear Term) where
           by true = refl
           by false = e
 
-  found : (o : Option (Affine × ℤ)) (x : Affine) → IsBest all f o → (o >>= λ b. Some b.0) ≡ Some x → IsOf all f x
-  found None x h e = absurd cc
-  found (Some b) x h e = subst (IsOf all f) (some_is b.0 x e) h
-
 bound_is : (node : Node) (side : Bool) (f : Linear Term) (x : Affine) → bound_of node side f ≡ Some x → IsOf node.literals f x
-bound_is node side f x e = found node.literals f (best_bound side f None node.literals) x (best_is node.literals f side None node.literals (λ l h. h) tt) e
+bound_is node side f x e = best_found (IsOf node.literals f) (best_bound side f None node.literals) x (best_is node.literals f side None node.literals (λ l h. h) tt) e
 
 -- ---- products
 

@@ -16,12 +16,13 @@ use Rattle.wy_search_bounds.specs.wy_term_subst.Names.{any_symbol, new_number}
 use Rattle.wy_search_bounds.specs.wy_check_spec.valid.Ranges.{Range, of_each, of_one, is_int, instance_at, witness, witnessed_at, numbers_in_node}
 use Rattle.wy_search_bounds.specs.wy_check_spec.valid.Membership.{fact_among}
 use Rattle.wy_search_bounds.specs.wy_check_spec.valid.Validity.{after, left_with, left_with_one}
-use Rattle.wy_search_spec.specs.Standing.{standing}
-use Rattle.wy_search_spec.specs.Expansion.{Spot, with_witness, with_witnesses, index_terms, with_instances_of, with_instances_by, with_instances, with_some, with_facts_of_one, measured, all_measured, read_from, with_elements, with_all_elements, with_pairs_of, with_pairs, equal_to, kind_says, is_whole_kind, in_equation, everything, kind_fact, with_kind_facts, with_facts_by, with_schemas, with_facts}
+use Rattle.wy_search_bounds.specs.wy_search_spec.Standing.{standing}
+use Rattle.wy_search_bounds.specs.wy_search_spec.Expansion.{Spot, with_witness, with_witnesses, index_terms, with_instances_of, with_instances_by, with_instances, with_some, with_facts_of_one, measured, all_measured, read_from, with_elements, with_all_elements, with_pairs_of, with_pairs, equal_to, kind_says, is_whole_kind, in_equation, everything, kind_fact, with_kind_facts, with_facts_by, with_schemas, with_facts}
 use Rattle.wy_search_bounds.specs.wy_check_laws.sound.Sortedness.{AreSortedTerms, IsSortedStep}
 use Rattle.wy_search_bounds.proofs.wy_check_laws_proofs.sound_lemmas.MadeLemmas.{IsFormula, IsVal, equal_sorted, either_sorted, implies_sorted, int_sorted, num_sorted}
 use Rattle.wy_search_bounds.proofs.wy_check_laws_proofs.sound_lemmas.NodeLemmas.{IsSortedNode, added_sorted}
 use Rattle.wy_search_laws.specs.closing.AtLeast.{IsAtLeast, any_in_literals, any_in_formulas, IsNear}
+use Rattle.wy_search_laws.proofs.closing_lemmas.SortedLemmas.{measured_sorted}
 use Rattle.wy_search_laws.proofs.closing_lemmas.AtLeastLemmas.{at_least_self, at_least_on, more_added, more_formulas, stands_at, literal_self}
 use Rattle.wy_search_laws.proofs.closing_lemmas.NameLemmas.{IsNamedIn, any_literal_there, near_self, near_formulas, witness_same, any_more}
 use Rattle.wy_search_laws.proofs.closing_lemmas.Closing.{AreFoldedLiterals, AreFoldedTerms, IsFoldedNode, IsClosableNear, LeadsOn, led_by}
@@ -106,10 +107,6 @@ module _ (types : List Entry) (leads_on : LeadsOn types) where
     folded_both : (ts us : List Term) → AreFoldedTerms ts → AreFoldedTerms us → AreFoldedTerms (ts ++ us)
     folded_both [] us h g = g
     folded_both (t ∷ ts) us h g = (h.0, folded_both ts us h.1 g)
-
-    measured_sorted : (t : Term) → IsSorted t → AreSortedTerms (measured t)
-    measured_sorted (Of term.len (part v no_parts)) h = (h.1, tt)
-    measured_sorted t h = tt
 
     measured_folded : (t : Term) → IsFolded t → AreFoldedTerms (measured t)
     measured_folded (Of term.len (part v no_parts)) h = (h.1.0, tt)

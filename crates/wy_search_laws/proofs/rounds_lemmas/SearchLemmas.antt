@@ -14,11 +14,11 @@ use Rattle.wy_search_bounds.specs.wy_check_spec.judge.Judgement.{of_atom, judged
 use Rattle.wy_search_bounds.specs.wy_cert.Steps.{split, shut}
 use Rattle.wy_search_bounds.specs.wy_check_spec.valid.Literals.{is_shut}
 use Rattle.wy_search_bounds.specs.wy_check_spec.valid.Validity.{closed as no_node}
-use Rattle.wy_search_spec.specs.Classes.{clashes}
-use Rattle.wy_search_spec.specs.Bounds.{Ending, refuted, consistent, crowded, wide, ending}
-use Rattle.wy_search_spec.specs.Splitting.{joined_atoms, atoms_in, atoms_in_parts, is_open, is_forced, first_forced, first_undecided, first_open, atoms_of, or_else, next_atom}
-use Rattle.wy_search_spec.specs.Expansion.{Spot, expanded}
-use Rattle.wy_search_spec.specs.Tree.{Next, closed, stays_open, splits, goes_on, why_open, is_more, on_expansion, on_atom, by_ending, next, Verdict, found, spent, follows, searched, first_spot}
+use Rattle.wy_search_bounds.specs.wy_search_spec.Classes.{clashes}
+use Rattle.wy_search_bounds.specs.wy_search_spec.Bounds.{Ending, refuted, consistent, crowded, wide, ending}
+use Rattle.wy_search_bounds.specs.wy_search_spec.Splitting.{joined_atoms, atoms_in, atoms_in_parts, is_open, is_forced, first_forced, first_undecided, first_open, atoms_of, or_else, next_atom}
+use Rattle.wy_search_bounds.specs.wy_search_spec.Expansion.{Spot, expanded}
+use Rattle.wy_search_bounds.specs.wy_search_spec.Tree.{Next, closed, stays_open, splits, goes_on, why_open, is_more, on_expansion, on_atom, by_ending, next, Verdict, found, spent, follows, searched, first_spot}
 use Rattle.wy_search_bounds.specs.wy_check_laws.sound.Sortedness.{AreFormulas}
 use Rattle.wy_search_bounds.proofs.wy_check_laws_proofs.sound_lemmas.MadeLemmas.{IsFormula}
 use Rattle.wy_search_bounds.proofs.wy_check_laws_proofs.sound_lemmas.NodeLemmas.{AreSortedLiterals, IsSortedNode, added_sorted, denied_sorted, first_sorted}

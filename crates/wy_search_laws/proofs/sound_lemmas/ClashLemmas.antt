@@ -14,8 +14,8 @@ use Rattle.wy_search_bounds.proofs.wy_facts_proofs.SenseLemmas.{datum_self}
 use Rattle.wy_search_bounds.specs.wy_check_spec.judge.Node.{Literal, Node}
 use Rattle.wy_search_bounds.specs.wy_check_spec.judge.Told.{AllTold, IsTrueNode}
 use Rattle.wy_search_bounds.specs.wy_check_spec.valid.Kinds.{are_apart, of_two_kinds, Kinded, in_two_kinds, in_one_kind}
-use Rattle.wy_search_spec.specs.Standing.{is_term_sort, only_terms, standing, present}
-use Rattle.wy_search_spec.specs.Classes.{in_one_class, denies_equal, any_denies, constants_apart, any_apart, kind_by, kinds_by, own_kind, own_kinds, kinds_with, any_kinds, classes, classes_clash, clashes}
+use Rattle.wy_search_bounds.specs.wy_search_spec.Standing.{is_term_sort, only_terms, standing, present}
+use Rattle.wy_search_bounds.specs.wy_search_spec.Classes.{in_one_class, denies_equal, any_denies, constants_apart, any_apart, kind_by, kinds_by, own_kind, own_kinds, kinds_with, any_kinds, classes, classes_clash, clashes}
 use Rattle.wy_search_bounds.proofs.wy_check_laws_proofs.sound_lemmas.Basics.{or_cases}
 use Rattle.wy_search_bounds.proofs.wy_check_laws_proofs.sound_lemmas.KindLemmas.{clash_alone_never, dat, AllOfKind, given_is, one_kind, of_kind_both}
 use Rattle.wy_search_laws.specs.sound.Closed.{AreLiterals}

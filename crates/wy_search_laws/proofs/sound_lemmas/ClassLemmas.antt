@@ -6,7 +6,7 @@ use Rattle.std.proofs.lemmas.List.{get_or-map, length-map}
 use Rattle.wy_lemmas.proofs.Choices.{both_parts as and_both}
 use Rattle.wy_lemmas.proofs.Numbers.{moved}
 use Rattle.wy_lemmas.proofs.Options.{some_number_is as some_is}
-use Rattle.wy_search_spec.proofs.SharedLemmas.{length_numbers, number_at}
+use Rattle.wy_search_bounds.proofs.wy_search_spec_proofs.SharedLemmas.{length_numbers, number_at}
 use Rattle.wy_search_bounds.specs.wy_term.Term.{Symbol, Term, Of, Parts, no_parts, part, equal}
 use Rattle.wy_search_bounds.specs.wy_term.Same.{same_symbol, same_term}
 use Rattle.wy_search_bounds.specs.wy_term.Sorts.{sort_in}
@@ -14,7 +14,7 @@ use Rattle.wy_search_bounds.specs.wy_term.Meaning.{Names, Sense, numeric, sense,
 use Rattle.wy_search_bounds.proofs.wy_term_proofs.SameLemmas.{symbols_are, terms_are}
 use Rattle.wy_search_bounds.specs.wy_check_spec.judge.Node.{Literal}
 use Rattle.wy_search_bounds.specs.wy_check_spec.judge.Told.{AllTold}
-use Rattle.wy_search_spec.specs.Classes.{place_from, label_of, same_label, in_one_class, arguments_equal, are_congruent, relabelled, joined, with_equal, with_literal, with_equations, with_congruent, with_all_congruent, rounds, numbers_from, classes}
+use Rattle.wy_search_bounds.specs.wy_search_spec.Classes.{place_from, label_of, same_label, in_one_class, arguments_equal, are_congruent, relabelled, joined, with_equal, with_literal, with_equations, with_congruent, with_all_congruent, rounds, numbers_from, classes}
 use Rattle.wy_search_bounds.proofs.wy_check_laws_proofs.sound_lemmas.Basics.{or_cases}
 use Rattle.wy_search_bounds.proofs.wy_check_laws_proofs.sound_lemmas.ChainLemmas.{data_are_equal, IsTermSort, senses_at, same_head}
 use Rattle.wy_search_bounds.proofs.wy_check_laws_proofs.sound_lemmas.MadeLemmas.{IsFormula}

@@ -4,11 +4,11 @@ use Rattle.wy_search_bounds.proofs.wy_check_laws_proofs.sound_lemmas.StepLemmas.
 use Rattle.wy_search_bounds.specs.wy_term.Term.{Term}
 use Rattle.wy_search_bounds.specs.wy_term.Condition.{Entry}
 use Rattle.wy_search_bounds.specs.wy_check_spec.valid.Literals.{is_shut}
-use Rattle.wy_search_spec.specs.Classes.{clashes}
-use Rattle.wy_search_spec.specs.Splitting.{next_atom}
-use Rattle.wy_search_spec.specs.Bounds.{Ending, refuted, consistent, crowded, wide, ending}
-use Rattle.wy_search_spec.specs.Expansion.{Spot, expanded}
-use Rattle.wy_search_spec.specs.Tree.{Next, closed, stays_open, splits, goes_on, why_open, unless_same, is_more, on_expansion, on_atom, by_ending, next}
+use Rattle.wy_search_bounds.specs.wy_search_spec.Classes.{clashes}
+use Rattle.wy_search_bounds.specs.wy_search_spec.Splitting.{next_atom}
+use Rattle.wy_search_bounds.specs.wy_search_spec.Bounds.{Ending, refuted, consistent, crowded, wide, ending}
+use Rattle.wy_search_bounds.specs.wy_search_spec.Expansion.{Spot, expanded}
+use Rattle.wy_search_bounds.specs.wy_search_spec.Tree.{Next, closed, stays_open, splits, goes_on, why_open, unless_same, is_more, on_expansion, on_atom, by_ending, next}
 use Rattle.std.specs.Prelude.{nat_lt}
 use Rattle.wy_search_bounds.proofs.wy_check_laws_proofs.sound_lemmas.Basics.{or_cases}
 use Rattle.wy_search_laws.specs.sound.Closed.{IsSortedNode, ClosedNodesAreFalse}

@@ -12,7 +12,7 @@ use Rattle.wy_search_bounds.specs.wy_lin.Combination.{form_at, combined, combine
 use Rattle.wy_search_bounds.proofs.wy_lin_proofs.OptionLemmas.{bind_some, fitted_is}
 use Rattle.wy_search_bounds.specs.wy_lin_eliminate.Validity.{divides}
 use Rattle.wy_search_bounds.proofs.wy_lin_eliminate_proofs.ValidityLemmas.{IsEven, AreEven, form_with, some_form, even_divides, even_with, even_plus}
-use Rattle.wy_search_spec.specs.Bounds.{named_from}
+use Rattle.wy_search_bounds.specs.wy_search_spec.Bounds.{named_from}
 
 even_named : (all : List (Linear ℕ)) (f : Linear ℕ) (ts : List (ℕ × Linear ℕ)) (i : ℕ) (h : Linear ℕ) → AreEven f.parts → combined_from all f (named_from 2 ts i) ≡ Some h → AreEven h.parts
 even_named all f [] i h even gives = subst AreEven (ap (λ (k : Linear ℕ). k.parts) (some_is f h gives)) even

@@ -26,8 +26,8 @@ use Rattle.wy_search_bounds.specs.wy_cert.Steps.{fact}
 use Rattle.wy_search_bounds.specs.wy_check_spec.valid.Ranges.{Range, as_every, as_exists, of_each, body_at, is_int, instance_at}
 use Rattle.wy_search_bounds.specs.wy_check_spec.valid.Membership.{membership_by, fact_among}
 use Rattle.wy_search_bounds.specs.wy_check_spec.valid.Validity.{left_with_one}
-use Rattle.wy_search_spec.specs.Standing.{standing}
-use Rattle.wy_search_spec.specs.Expansion.{with_instances_of, with_instances_by, with_instances, with_some, with_facts_of_one, measured, all_measured, read_from, with_elements, with_all_elements, with_pairs_of, with_pairs, equal_to, kind_says, is_whole_kind, in_equation, everything, of_kind_literal, kind_fact, with_kind_facts, with_facts_by, with_schemas, with_facts}
+use Rattle.wy_search_bounds.specs.wy_search_spec.Standing.{standing}
+use Rattle.wy_search_bounds.specs.wy_search_spec.Expansion.{with_instances_of, with_instances_by, with_instances, with_some, with_facts_of_one, measured, all_measured, read_from, with_elements, with_all_elements, with_pairs_of, with_pairs, equal_to, kind_says, is_whole_kind, in_equation, everything, of_kind_literal, kind_fact, with_kind_facts, with_facts_by, with_schemas, with_facts}
 use Rattle.wy_search_bounds.specs.wy_term.Same.{same_term}
 use Rattle.wy_search_bounds.specs.wy_check_laws.sound.Sortedness.{AreFormulas, AreSortedEntries, AreSortedTerms}
 use Rattle.wy_search_bounds.proofs.wy_check_laws_proofs.sound_lemmas.MadeLemmas.{IsInt, IsVal, IsFormula, at_most_sorted, equal_sorted, denial_sorted, either_sorted, one_of_three_sorted, implies_sorted, int_sorted, num_sorted}
@@ -35,6 +35,7 @@ use Rattle.wy_search_bounds.proofs.wy_check_laws_proofs.sound_lemmas.MemberLemma
 use Rattle.wy_search_bounds.proofs.wy_check_laws_proofs.sound_lemmas.NodeLemmas.{AreSortedLiterals, IsSortedNode, added_sorted}
 use Rattle.wy_search_bounds.proofs.wy_check_laws_proofs.sound_lemmas.RangeLemmas.{instance_holds}
 use Rattle.wy_search_bounds.proofs.wy_check_laws_proofs.sound_lemmas.StepLemmas.{Leads, step_leads, int_is, said_sorted}
+use Rattle.wy_search_laws.proofs.closing_lemmas.SortedLemmas.{measured_sorted}
 use Rattle.wy_search_laws.proofs.sound_lemmas.StandingLemmas.{AreIndices, node_sorted}
 
 -- ---- following
@@ -91,10 +92,6 @@ module _ (types : List Entry) (are_closed : AreClosed types) (entries : AreSorte
   terms_both : (ts us : List Term) → AreSortedTerms ts → AreSortedTerms us → AreSortedTerms (ts ++ us)
   terms_both [] us h g = g
   terms_both (t ∷ ts) us h g = (h.0, terms_both ts us h.1 g)
-
-  measured_sorted : (t : Term) → IsSorted t → AreSortedTerms (measured t)
-  measured_sorted (Of term.len (part v no_parts)) h = (h.1, tt)
-  measured_sorted t h = tt
 
   all_measured_sorted : (ts : List Term) → AreSortedTerms ts → AreSortedTerms (all_measured ts)
   all_measured_sorted [] h = tt

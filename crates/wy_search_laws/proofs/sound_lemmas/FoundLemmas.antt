@@ -11,11 +11,11 @@ use Rattle.wy_search_bounds.specs.wy_check_spec.judge.Told.{IsTrueNode}
 use Rattle.wy_search_bounds.specs.wy_check_spec.judge.Judgement.{of_atom, judged}
 use Rattle.wy_search_bounds.proofs.wy_check_spec_proofs.judge_lemmas.TruthLemmas.{adds_truly, begins_truly}
 use Rattle.wy_search_bounds.specs.wy_check_spec.valid.Literals.{is_shut}
-use Rattle.wy_search_spec.specs.Classes.{clashes}
-use Rattle.wy_search_spec.specs.Bounds.{Ending, refuted, consistent, crowded, wide, ending}
-use Rattle.wy_search_spec.specs.Splitting.{atoms_in, is_open, is_forced, first_forced, first_undecided, first_open, atoms_of, or_else, next_atom}
-use Rattle.wy_search_spec.specs.Expansion.{Spot, with_witnesses, index_terms, with_instances, with_facts, with_products, with_node, expanded}
-use Rattle.wy_search_spec.specs.Tree.{Why, Next, closed, stays_open, splits, goes_on, why_open, is_more, on_expansion, on_atom, by_ending, next, Verdict, found, spent, follows, searched, first_spot}
+use Rattle.wy_search_bounds.specs.wy_search_spec.Classes.{clashes}
+use Rattle.wy_search_bounds.specs.wy_search_spec.Bounds.{Ending, refuted, consistent, crowded, wide, ending}
+use Rattle.wy_search_bounds.specs.wy_search_spec.Splitting.{atoms_in, is_open, is_forced, first_forced, first_undecided, first_open, atoms_of, or_else, next_atom}
+use Rattle.wy_search_bounds.specs.wy_search_spec.Expansion.{Spot, with_witnesses, index_terms, with_instances, with_facts, with_products, with_node, expanded}
+use Rattle.wy_search_bounds.specs.wy_search_spec.Tree.{Why, Next, closed, stays_open, splits, goes_on, why_open, is_more, on_expansion, on_atom, by_ending, next, Verdict, found, spent, follows, searched, first_spot}
 use Rattle.wy_search_bounds.specs.wy_check_laws.sound.Sortedness.{AreFormulas, AreSortedEntries}
 use Rattle.wy_search_bounds.proofs.wy_check_laws_proofs.sound_lemmas.Basics.{or_cases}
 use Rattle.wy_search_bounds.proofs.wy_check_laws_proofs.sound_lemmas.MadeLemmas.{IsFormula}

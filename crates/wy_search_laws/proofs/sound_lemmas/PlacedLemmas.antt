@@ -15,8 +15,8 @@ use Rattle.wy_search_bounds.specs.wy_lin.TermForm.{with, multiple, form_of_produ
 use Rattle.wy_search_bounds.proofs.wy_lin_proofs.OptionLemmas.{bind_some}
 use Rattle.wy_search_bounds.specs.wy_check_spec.judge.Node.{Literal, Node, has_formula}
 use Rattle.wy_search_bounds.specs.wy_check_spec.valid.Literals.{signed, formula_of}
-use Rattle.wy_search_spec.specs.Standing.{Standing, all_parts, standing_in, have_common, with_unbound, in_literals, in_formulas, standing, is_term_sort, only_terms, present}
-use Rattle.wy_search_spec.specs.Classes.{place_from}
+use Rattle.wy_search_bounds.specs.wy_search_spec.Standing.{Standing, all_parts, standing_in, have_common, with_unbound, in_literals, in_formulas, standing, is_term_sort, only_terms, present}
+use Rattle.wy_search_bounds.specs.wy_search_spec.Classes.{place_from}
 use Rattle.wy_search_bounds.proofs.wy_check_laws_proofs.sound_lemmas.MadeLemmas.{IsInt, IsFormula}
 
 -- ---- what stands in a node

@@ -18,12 +18,13 @@ use Rattle.wy_search_bounds.proofs.wy_check_spec_proofs.valid_lemmas.SharedLemma
 use Rattle.wy_search_bounds.specs.wy_check_spec.valid.Literals.{formula_of, literal_at}
 use Rattle.wy_search_bounds.specs.wy_check_spec.valid.Sums.{all_zero, form_at}
 use Rattle.wy_search_bounds.specs.wy_check_spec.valid.Products.{Affine, affine, as_product, product_of, product_stated}
-use Rattle.wy_search_spec.specs.Standing.{standing}
-use Rattle.wy_search_spec.specs.Expansion.{with_some, tighter, with_bound, bound_by_literal, best_bound, bound_of, with_product, with_four, with_forms, with_products_of, with_products_by, with_products}
+use Rattle.wy_search_bounds.specs.wy_search_spec.Standing.{standing}
+use Rattle.wy_search_bounds.specs.wy_search_spec.Expansion.{with_some, tighter, with_bound, bound_by_literal, best_bound, bound_of, with_product, with_four, with_forms, with_products_of, with_products_by, with_products}
 use Rattle.wy_search_bounds.specs.wy_check_laws.sound.Sortedness.{AreSortedTerms}
 use Rattle.wy_search_bounds.proofs.wy_check_laws_proofs.sound_lemmas.NodeLemmas.{IsSortedNode}
 use Rattle.wy_search_bounds.proofs.wy_check_laws_proofs.sound_lemmas.FormSortLemmas.{product_sorted}
 use Rattle.wy_search_bounds.proofs.wy_check_laws_proofs.sound_lemmas.ProductLemmas.{product_holds}
+use Rattle.wy_search_laws.proofs.closing_lemmas.BestLemmas.{IsBest, best_with, best_found}
 use Rattle.wy_search_laws.proofs.sound_lemmas.FollowingLemmas.{Follows, follows_self, adds}
 use Rattle.wy_search_laws.proofs.sound_lemmas.StandingLemmas.{node_sorted}
 
@@ -65,27 +66,7 @@ record IsOf (all : List Literal) (f : Linear Term) (x : Affine) : Type 0 where
   is : form_at all number ≡ Some form
   affine_is : affine f form ≡ Some x
 
-abbrev IsBest : List Literal → Linear Term → Option (Affine × ℤ) → Type 0
-IsBest all f None = Unit {0}
-IsBest all f (Some b) = IsOf all f b.0
-
 module _ (all : List Literal) (f : Linear Term) where
-  best_tighter : (best : Option (Affine × ℤ)) (x : Affine) (at : ℤ) → IsBest all f best → IsOf all f x → IsBest all f (tighter best x at)
-  best_tighter None x at h g = g
-  best_tighter (Some b) x at h g = by (int_lt at b.1)
-    where
-      by : (c : Bool) → IsBest all f (cond c (Some (x, at)) (Some b))
-      by true = g
-      by false = h
-
-  best_with : (side : Bool) (best : Option (Affine × ℤ)) (o : Option Affine) → IsBest all f best → ((x : Affine) → o ≡ Some x → IsOf all f x) → IsBest all f (with_bound side best o)
-  best_with side best None h g = h
-  best_with side best (Some x) h g = by (beq (int_lt (pos 0) x.factor) side)
-    where
-      by : (c : Bool) → IsBest all f (cond c (tighter best x (quotient_down x.more (unsigned_abs x.factor))) best)
-      by true = best_tighter best x (quotient_down x.more (unsigned_abs x.factor)) h (g x refl)
-      by false = h
-
   literal_is : (l : Literal) (x : Affine) → HasNumber all l → bound_by_literal f l ≡ Some x → IsOf all f x
   literal_is l x has e =
       let h = bind_some (form_of_literal (formula_of l)) (λ h. affine f h) x e in
@@ -96,16 +77,12 @@ module _ (all : List Literal) (f : Linear Term) where
         affine_is = h.2;
       }
 
-  best_is : (side : Bool) (best : Option (Affine × ℤ)) (ls : List Literal) → HaveNumbers all ls → IsBest all f best → IsBest all f (best_bound side f best ls)
+  best_is : (side : Bool) (best : Option (Affine × ℤ)) (ls : List Literal) → HaveNumbers all ls → IsBest (IsOf all f) best → IsBest (IsOf all f) (best_bound side f best ls)
   best_is side best [] has h = h
-  best_is side best (l ∷ ls) has h = best_is side (with_bound side best (bound_by_literal f l)) ls has.1 (best_with side best (bound_by_literal f l) h (λ x e. literal_is l x has.0 e))
-
-  found : (o : Option (Affine × ℤ)) (x : Affine) → IsBest all f o → (o >>= λ b. Some b.0) ≡ Some x → IsOf all f x
-  found None x h e = absurd cc
-  found (Some b) x h e = subst (IsOf all f) (some_is b.0 x e) h
+  best_is side best (l ∷ ls) has h = best_is side (with_bound side best (bound_by_literal f l)) ls has.1 (best_with (IsOf all f) side best (bound_by_literal f l) h (λ x e. literal_is l x has.0 e))
 
 bound_is : (node : Node) (side : Bool) (f : Linear Term) (x : Affine) → bound_of node side f ≡ Some x → IsOf node.literals f x
-bound_is node side f x e = found node.literals f (best_bound side f None node.literals) x (best_is node.literals f side None node.literals (all_numbered node.literals) tt) e
+bound_is node side f x e = best_found (IsOf node.literals f) (best_bound side f None node.literals) x (best_is node.literals f side None node.literals (all_numbered node.literals) tt) e
 
 -- ---- products
 

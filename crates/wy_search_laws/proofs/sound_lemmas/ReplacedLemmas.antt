@@ -23,9 +23,9 @@ use Rattle.wy_search_bounds.specs.wy_lin_eliminate.Elimination.{elimination}
 use Rattle.wy_search_bounds.specs.wy_check_spec.judge.Node.{Literal, Node}
 use Rattle.wy_search_bounds.specs.wy_check_spec.judge.Told.{AllTold, IsTrueNode}
 use Rattle.wy_search_bounds.specs.wy_check_spec.valid.Literals.{formula_of}
-use Rattle.wy_search_spec.specs.Standing.{in_literals, standing, present}
-use Rattle.wy_search_spec.specs.Classes.{place_from, classes}
-use Rattle.wy_search_spec.specs.Bounds.{number_or_end, numbered_part, numbered, first_with, first_of_class, order_form, taking_away, takings, named_from, all_fit, stated_sum, Replaced, gone, given, refutes, leaves, by_two, by_common, by_sum, replaced_by, replaced, with_form, replaced_forms, is_refuting, is_leaving, any_so, form_in, forms_in, Ending, refuted, consistent, crowded, wide, ending_of, ending_by, ending}
+use Rattle.wy_search_bounds.specs.wy_search_spec.Standing.{in_literals, standing, present}
+use Rattle.wy_search_bounds.specs.wy_search_spec.Classes.{place_from, classes}
+use Rattle.wy_search_bounds.specs.wy_search_spec.Bounds.{number_or_end, numbered_part, numbered, first_with, first_of_class, order_form, taking_away, takings, named_from, all_fit, stated_sum, Replaced, gone, given, refutes, leaves, by_two, by_common, by_sum, replaced_by, replaced, with_form, replaced_forms, is_refuting, is_leaving, any_so, form_in, forms_in, Ending, refuted, consistent, crowded, wide, ending_of, ending_by, ending}
 use Rattle.wy_search_bounds.proofs.wy_check_laws_proofs.sound_lemmas.Basics.{or_cases, formula_told}
 use Rattle.wy_search_laws.specs.sound.Closed.{IsNatural, AreNatural, AreLiterals}
 use Rattle.wy_search_laws.proofs.sound_lemmas.FormLemmas.{cond_some, combined_natural, bare_never, lowered_natural, common_lowered}

@@ -7,9 +7,9 @@ use Rattle.wy_search_bounds.specs.wy_term.Scope.{free_names}
 use Rattle.wy_search_bounds.specs.wy_term_subst.sorted.Sorted.{Places, these, each, places, behind, IsSorted, AreSorted}
 use Rattle.wy_search_bounds.specs.wy_check_spec.judge.Node.{Literal, Node, has_formula}
 use Rattle.wy_search_bounds.specs.wy_check_spec.valid.Ranges.{is_int}
-use Rattle.wy_search_spec.specs.Standing.{Standing, bound_by, part_at, all_parts, below, standing_in, standing_in_parts, have_common, with_unbound, in_literals, in_formulas, standing}
-use Rattle.wy_search_spec.specs.Splitting.{joined_atoms, atoms_in, atoms_in_parts, atoms_of}
-use Rattle.wy_search_spec.specs.Expansion.{among, only_int}
+use Rattle.wy_search_bounds.specs.wy_search_spec.Standing.{Standing, bound_by, part_at, all_parts, below, standing_in, standing_in_parts, have_common, with_unbound, in_literals, in_formulas, standing}
+use Rattle.wy_search_bounds.specs.wy_search_spec.Splitting.{joined_atoms, atoms_in, atoms_in_parts, atoms_of}
+use Rattle.wy_search_bounds.specs.wy_search_spec.Expansion.{among, only_int}
 use Rattle.wy_search_bounds.specs.wy_check_laws.sound.Sortedness.{AreFormulas, AreSortedTerms}
 use Rattle.wy_search_bounds.proofs.wy_check_laws_proofs.sound_lemmas.MadeLemmas.{IsFormula}
 use Rattle.wy_search_bounds.proofs.wy_check_laws_proofs.sound_lemmas.NodeLemmas.{AreSortedLiterals, IsSortedNode}

@@ -12,7 +12,7 @@ use Rattle.wy_search_bounds.specs.wy_cert.Steps.{wit}
 use Rattle.wy_search_bounds.specs.wy_check_spec.valid.Literals.{literal_at}
 use Rattle.wy_search_bounds.specs.wy_check_spec.valid.Ranges.{Range, of_one, witness, witnessed_at}
 use Rattle.wy_search_bounds.specs.wy_check_spec.valid.Validity.{left_with}
-use Rattle.wy_search_spec.specs.Expansion.{Spot, with_witness, with_witnesses}
+use Rattle.wy_search_bounds.specs.wy_search_spec.Expansion.{Spot, with_witness, with_witnesses}
 use Rattle.wy_search_bounds.specs.wy_check_laws.sound.Sortedness.{AreSortedEntries}
 use Rattle.wy_search_bounds.proofs.wy_check_laws_proofs.sound_lemmas.NodeLemmas.{IsSortedNode}
 use Rattle.wy_search_bounds.proofs.wy_check_laws_proofs.sound_lemmas.StepLemmas.{IsFalse, Leads, step_leads}

@@ -5,7 +5,7 @@ use Rattle.std.proofs.lemmas.Bool.{eqb-true, eq-eqb}
 use Rattle.std.proofs.lemmas.List.{length-map}
 use Rattle.wy_lemmas.proofs.Choices.{true_false as false_not_true, first_false as or_false, or_right as second_true}
 use Rattle.wy_lemmas.proofs.Options.{some_number_is as some_is}
-use Rattle.wy_search_spec.proofs.SharedLemmas.{length_numbers}
+use Rattle.wy_search_bounds.proofs.wy_search_spec_proofs.SharedLemmas.{length_numbers}
 use Rattle.wy_search_bounds.specs.wy_term.Term as term
 use Rattle.wy_search_bounds.specs.wy_term.Term.{Symbol, Term, Of, Parts, no_parts, part, two, Number, equal}
 use Rattle.wy_search_bounds.specs.wy_term.Same.{same_term}
@@ -17,12 +17,12 @@ use Rattle.wy_search_bounds.specs.wy_lin.Linear.{Linear}
 use Rattle.wy_search_bounds.specs.wy_lin.Seen.{seen, seen_part}
 use Rattle.wy_search_bounds.proofs.wy_lin_proofs.SeenLemmas.{NamesOnce, names_once}
 use Rattle.wy_search_bounds.specs.wy_check_spec.judge.Node.{Literal, Node, has_formula, has_literal}
-use Rattle.wy_search_spec.specs.Standing.{Standing, have_common, with_unbound, in_literals, in_formulas, standing, is_term_sort, only_terms, present}
-use Rattle.wy_search_spec.specs.Classes.{place_from, label_of, same_label, in_one_class, are_congruent, relabelled, joined, with_equal, with_literal, with_equations, with_congruent, with_all_congruent, rounds, numbers_from, classes}
-use Rattle.wy_search_spec.specs.Bounds.{number_or_end, numbered_part, numbered, first_with, first_of_class}
-use Rattle.wy_search_spec.specs.least.Least.{IsAmong}
-use Rattle.wy_search_spec.proofs.least_lemmas.PlaceLemmas.{place_below, place_same, placed}
-use Rattle.wy_search_spec.proofs.least_lemmas.SoundLemmas.{ArePair, ArePairs, Relates, related_classes}
+use Rattle.wy_search_bounds.specs.wy_search_spec.Standing.{Standing, have_common, with_unbound, in_literals, in_formulas, standing, is_term_sort, only_terms, present}
+use Rattle.wy_search_bounds.specs.wy_search_spec.Classes.{place_from, label_of, same_label, in_one_class, are_congruent, relabelled, joined, with_equal, with_literal, with_equations, with_congruent, with_all_congruent, rounds, numbers_from, classes}
+use Rattle.wy_search_bounds.specs.wy_search_spec.Bounds.{number_or_end, numbered_part, numbered, first_with, first_of_class}
+use Rattle.wy_search_bounds.specs.wy_search_spec.least.Least.{IsAmong}
+use Rattle.wy_search_bounds.proofs.wy_search_spec_proofs.least_lemmas.PlaceLemmas.{place_below, place_same, placed}
+use Rattle.wy_search_bounds.proofs.wy_search_spec_proofs.least_lemmas.SoundLemmas.{ArePair, ArePairs, Relates, related_classes}
 use Rattle.wy_search_laws.proofs.sums_lemmas.VariableLemmas.{is_end, is_one, is_two, is_variable, none_number, val_is}
 
 -- ---- lists in which no term stands twice

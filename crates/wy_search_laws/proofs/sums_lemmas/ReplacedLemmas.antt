@@ -24,10 +24,10 @@ use Rattle.wy_search_bounds.specs.wy_lin_eliminate.declared.steps.Elim.{Elim}
 use Rattle.wy_search_bounds.specs.wy_lin_eliminate.declared.steps.Elim.TheVariants as outcome
 use Rattle.wy_search_bounds.specs.wy_lin_eliminate.Elimination.{elimination}
 use Rattle.wy_search_bounds.proofs.wy_lin_eliminate_proofs.ValidityLemmas.{common-divides, common-bare}
-use Rattle.wy_search_spec.specs.Standing.{standing_in, in_literals, standing, present}
-use Rattle.wy_search_spec.specs.Classes.{place_from, classes}
-use Rattle.wy_search_spec.specs.Bounds.{number_or_end, numbered_part, numbered, first_of_class, order_form, taking_away, takings, named_from, all_fit, stated_sum, Replaced, gone, given, refutes, leaves, by_two, by_common, by_sum, replaced_by, replaced, with_form, replaced_forms, is_refuting, is_leaving, any_so, forms_in, Ending, refuted, consistent, crowded, wide, ending_of, ending_by, ending}
-use Rattle.wy_search_spec.proofs.least_lemmas.PlaceLemmas.{place_below, place_same}
+use Rattle.wy_search_bounds.specs.wy_search_spec.Standing.{standing_in, in_literals, standing, present}
+use Rattle.wy_search_bounds.specs.wy_search_spec.Classes.{place_from, classes}
+use Rattle.wy_search_bounds.specs.wy_search_spec.Bounds.{number_or_end, numbered_part, numbered, first_of_class, order_form, taking_away, takings, named_from, all_fit, stated_sum, Replaced, gone, given, refutes, leaves, by_two, by_common, by_sum, replaced_by, replaced, with_form, replaced_forms, is_refuting, is_leaving, any_so, forms_in, Ending, refuted, consistent, crowded, wide, ending_of, ending_by, ending}
+use Rattle.wy_search_bounds.proofs.wy_search_spec_proofs.least_lemmas.PlaceLemmas.{place_below, place_same}
 use Rattle.wy_search_bounds.proofs.wy_check_laws_proofs.sound_lemmas.Basics.{or_cases}
 use Rattle.wy_search_bounds.proofs.wy_check_laws_proofs.sound_lemmas.MadeLemmas.{IsFormula}
 use Rattle.wy_search_bounds.proofs.wy_check_laws_proofs.sound_lemmas.NodeLemmas.{AreSortedLiterals, IsSortedNode}

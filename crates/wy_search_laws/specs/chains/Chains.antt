@@ -5,7 +5,7 @@ use Rattle.wy_search_bounds.specs.wy_term.Folding.{folded}
 use Rattle.wy_search_bounds.specs.wy_term.Condition.{Entry}
 use Rattle.wy_search_bounds.specs.wy_check_spec.judge.Node.{Literal, Node, has_literal}
 use Rattle.wy_search_bounds.specs.wy_check_spec.valid.Trees.{Tree, steps_in, Closes}
-use Rattle.wy_search_spec.specs.Classes.{clashes}
+use Rattle.wy_search_bounds.specs.wy_search_spec.Classes.{clashes}
 use Rattle.wy_search_bounds.specs.wy_check_laws.sound.Sortedness.{AreFormulas, AreSortedSteps}
 
 -- folding the literals' atoms changes nothing

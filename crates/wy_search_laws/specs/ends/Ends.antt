@@ -2,7 +2,7 @@
 use Rattle.std.specs.Prelude.{ℕ}
 use Rattle.wy_search_bounds.specs.wy_term.Condition.{Condition}
 use Rattle.wy_search_bounds.specs.wy_term.Unfolding.{AreClosed}
-use Rattle.wy_search_spec.specs.Tree.{IsVerdict, Verdict}
+use Rattle.wy_search_bounds.specs.wy_search_spec.Tree.{IsVerdict, Verdict}
 use Rattle.wy_search_bounds.specs.wy_check_laws.sound.Sortedness.{IsSortedCondition}
 
 -- the search of the condition has a verdict at this budget of leaves: some number of turns comes to it

@@ -4,7 +4,7 @@ use Rattle.wy_search_bounds.specs.wy_core.Types.{Ty}
 use Rattle.wy_search_bounds.specs.wy_core.CoreTree.{Core}
 use Rattle.wy_search_bounds.specs.wy_term.Condition.{Condition}
 use Rattle.wy_search_bounds.specs.wy_cert.Steps.{Certificates}
-use Rattle.wy_search_spec.specs.Tree.{found, IsVerdict}
+use Rattle.wy_search_bounds.specs.wy_search_spec.Tree.{found, IsVerdict}
 use Rattle.wy_search_laws.specs.rounds.Leaves.{HasCertificate}
 use Rattle.wy_search_bounds.specs.wy_sound_terms.formed.OwedConditions.{owed_conditions}
 use Rattle.wy_search_bounds.specs.wy_vc_laws.shown.Certified.{AreCertified}

@@ -10,10 +10,10 @@ use Rattle.wy_search_bounds.specs.wy_check_spec.judge.Node.{Literal, Node, is_at
 use Rattle.wy_search_bounds.specs.wy_cert.Steps.{Written}
 use Rattle.wy_search_bounds.specs.wy_check_spec.valid.Validity.{IsValid}
 use Rattle.wy_search_bounds.specs.wy_check_spec.valid.Trees.{Tree, steps_in, Closes}
-use Rattle.wy_search_spec.specs.Classes.{clashes}
-use Rattle.wy_search_spec.specs.Bounds.{refuted, ending}
-use Rattle.wy_search_spec.specs.Splitting.{next_atom}
-use Rattle.wy_search_spec.specs.Tree.{found, IsVerdict}
+use Rattle.wy_search_bounds.specs.wy_search_spec.Classes.{clashes}
+use Rattle.wy_search_bounds.specs.wy_search_spec.Bounds.{refuted, ending}
+use Rattle.wy_search_bounds.specs.wy_search_spec.Splitting.{next_atom}
+use Rattle.wy_search_bounds.specs.wy_search_spec.Tree.{found, IsVerdict}
 use Rattle.wy_search_bounds.specs.wy_check_laws.sound.Sortedness.{AreFormulas, IsSortedCondition, AreSortedSteps}
 use Rattle.wy_search_laws.specs.closing.AtLeast.{IsAtLeast}
 

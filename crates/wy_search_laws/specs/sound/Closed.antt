@@ -12,8 +12,8 @@ use Rattle.wy_search_bounds.specs.wy_check_spec.judge.Told.{IsTrueNode}
 use Rattle.wy_search_bounds.specs.wy_term.Sorts.{formula_sort}
 use Rattle.wy_search_bounds.specs.wy_term_subst.kept_sorts.SortKept.{HasSort}
 use Rattle.wy_search_bounds.specs.wy_check_laws.sound.Sortedness.{AreFormulas}
-use Rattle.wy_search_spec.specs.Expansion.{Spot}
-use Rattle.wy_search_spec.specs.Tree.{next, closed}
+use Rattle.wy_search_bounds.specs.wy_search_spec.Expansion.{Spot}
+use Rattle.wy_search_bounds.specs.wy_search_spec.Tree.{next, closed}
 
 -- ---- forms
 

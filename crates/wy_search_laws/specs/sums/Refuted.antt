@@ -3,7 +3,7 @@ use Rattle.std.specs.Prelude.{◌≡◌, List}
 use Rattle.wy_search_laws.specs.sound.Closed.{AreLiterals}
 use Rattle.wy_search_bounds.specs.wy_term.Condition.{Entry}
 use Rattle.wy_search_bounds.specs.wy_check_spec.judge.Node.{Node}
-use Rattle.wy_search_spec.specs.Bounds.{refuted, ending}
+use Rattle.wy_search_bounds.specs.wy_search_spec.Bounds.{refuted, ending}
 use Rattle.wy_search_bounds.specs.wy_check_laws.sound.Sortedness.{AreFormulas}
 use Rattle.wy_search_laws.specs.chains.Chains.{HasLiterals, HasSteps}
 

@@ -43,7 +43,7 @@ module _ (table : Table) (k : ℕ) (ranks : (rank : ℕ → ℕ) × IsRanked tab
   ways_hold row (atom.Array p) ns has e = false_true has
   ways_hold row atom.AnyRecord ns has e = false_true has
 
-  some_hold : (row : Fields) (cs : List (Conjunct ℕ)) → all_have f cs ≡ true → any_in (RecordShape (names_of row) (field_readers table k row)) cs ≡ true → some_fields (names_of row) (field_readers table k row) (all_ways table k cs) ≡ true
+  pub some_hold : (row : Fields) (cs : List (Conjunct ℕ)) → all_have f cs ≡ true → any_in (RecordShape (names_of row) (field_readers table k row)) cs ≡ true → some_fields (names_of row) (field_readers table k row) (all_ways table k cs) ≡ true
   some_hold row [] has e = false_true e
   some_hold row (c ∷ cs) has e =
       some_fields-append (names_of row) (field_readers table k row) (ways_of table k c) (all_ways table k cs)

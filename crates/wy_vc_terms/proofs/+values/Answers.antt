@@ -19,7 +19,8 @@ use Rattle.wy_vc_operations.proofs.GrowingLemmas.{here_kept, kept_all, kept_on, 
 use Rattle.wy_vc_operations.proofs.SlotLemmas.{put_at, slots_kept}
 use Rattle.wy_vc_terms.specs.Made.{IsMadeAt, IsUnderway}
 use Rattle.wy_vc_terms.specs.Wholes.{tys_of, record_parts, clause_parts}
-use Rattle.wy_vc_terms.proofs.KindLemmas.{null_type, bool_type, int_type, any_type, void_type, normal_type, record_type, named_type, array_type, union_type, inter_type, not_type, null_of, bool_of, int_of, var_of, call_of, neg_of, not_of, len_of, binary_of, is_of, index_of, field_of, list_of, repeat_of, record_of, quant_of}
+use Rattle.wy_core_lemmas.proofs.TypeKinds.{null_type, bool_type, int_type, any_type, void_type, normal_type, record_type, named_type, array_type, union_type, inter_type, not_type}
+use Rattle.wy_core_lemmas.proofs.ExpressionKinds.{null_of, bool_of, int_of, var_of, call_of, neg_of, not_of, len_of, binary_of, is_of, index_of, field_of, list_of, repeat_of, record_of, quant_of}
 use Rattle.wy_vc_terms.proofs.MadeLemmas.{plainly, behind, behind_two, as_type, from_count, as_expr, from_numbers, last_number, slots_by, body_from, body_by, quantified_made, named_written, defined_by, defined_as, no_name, found_name}
 use Rattle.wy_vc_terms.proofs.UnderwayLemmas.{begun, begun_with, field_turn, value_turn, field_value_turn, clause_turn, fields_end, clauses_end, values_end, field_values_end, names_numbered, below_pushed, next_node, next_field_node, names_turn, names_end}
 use Rattle.wy_vc_terms.proofs.+values.Goals as goal

@@ -24,7 +24,8 @@ use Rattle.wy_eval_exprs.specs.Operands.{items_of, parts_of}
 use Rattle.wy_eval_exprs.specs.Outcomes.{itself, meter_of, stopped}
 use Rattle.wy_eval_exprs.specs.Scopes.{scope, store_of}
 use Rattle.wy_eval_exprs.specs.Settings.{asked_by, data_in, items_by, named_by, parts_by, questions, setting, tests_at, turns_of}
-use Rattle.wy_eval_exprs.proofs.KindLemmas.{null_of, bool_of, int_of, var_of, call_of, neg_of, not_of, len_of, binary_of, is_of, index_of, field_of, list_of, repeat_of, record_of, quant_of, ty_null_of, ty_bool_of, ty_int_of, ty_any_of, ty_void_of, ty_record_of, ty_array_of, ty_union_of, ty_inter_of, ty_not_of, ty_named_of}
+use Rattle.wy_core_lemmas.proofs.ExpressionKinds.{null_of, bool_of, int_of, var_of, call_of, neg_of, not_of, len_of, binary_of, is_of, index_of, field_of, list_of, repeat_of, record_of, quant_of}
+use Rattle.wy_core_lemmas.proofs.TypeKinds.{null_type, bool_type, int_type, any_type, void_type, record_type, array_type, union_type, inter_type, not_type, named_type}
 use Rattle.wy_eval_exprs.proofs.StepLemmas.{gives_as, spent, refused, then_gives, then_is, then_stops, after_spend, as_kind, eval_stops, array_is, record_is, no_memory, turned, after_turn, asked_stops, as_ty}
 use Rattle.wy_eval_exprs.proofs.TurnLemmas.{values_begin, values_turn, values_refused, values_end, fields_begin, fields_turn, fields_refused, fields_end, hold_refused, hold_faults, hold_end, items_turn, items_false, items_refused, items_end, parts_turn, parts_false, parts_refused, parts_short, parts_end, turns_turn, turns_early, turns_refused, turns_fault, TurnsLeft, tys_of}
 use Rattle.wy_eval_exprs.proofs.VisitLemmas.{array_there, clause_is, each_from, record_there, turn_is, turn_refused, clauses_forgiven, clauses_give, definition_nowhere, definition_there, early_said, early_silent, few, items_at, name_at, parts_at, test_is, types_counted, void_asked}
@@ -706,7 +707,7 @@ asked-returns-in-Null t c =
     let E = c.args.ty.now in
     let X = seen_ty c.args.ty.now in
     let H = c.in_ok-turn.ensures.value in
-    record { value = ap (λ x. asked_by Q B D x M0) (ty_null_of E c.in-Null.is) ∙ (turned (Some L) P (tests.answer (tests.is_null D)) M0 M1 H ∙ ap (λ b. Done b M1) (sym c.is_null.ensures.value)) }
+    record { value = ap (λ x. asked_by Q B D x M0) (null_type E c.in-Null.is) ∙ (turned (Some L) P (tests.answer (tests.is_null D)) M0 M1 H ∙ ap (λ b. Done b M1) (sym c.is_null.ensures.value)) }
 
 pub asked-returns-in-Bool : goal.asked-returns-in-Bool
 asked-returns-in-Bool t c =
@@ -720,7 +721,7 @@ asked-returns-in-Bool t c =
     let E = c.args.ty.now in
     let X = seen_ty c.args.ty.now in
     let H = c.in_ok-turn.ensures.value in
-    record { value = ap (λ x. asked_by Q B D x M0) (ty_bool_of E c.in-Bool.is) ∙ (turned (Some L) P (tests.answer (tests.is_truth D)) M0 M1 H ∙ ap (λ b. Done b M1) (sym c.is_truth.ensures.value)) }
+    record { value = ap (λ x. asked_by Q B D x M0) (bool_type E c.in-Bool.is) ∙ (turned (Some L) P (tests.answer (tests.is_truth D)) M0 M1 H ∙ ap (λ b. Done b M1) (sym c.is_truth.ensures.value)) }
 
 pub asked-returns-in-Int : goal.asked-returns-in-Int
 asked-returns-in-Int t c =
@@ -734,7 +735,7 @@ asked-returns-in-Int t c =
     let E = c.args.ty.now in
     let X = seen_ty c.args.ty.now in
     let H = c.in_ok-turn.ensures.value in
-    record { value = ap (λ x. asked_by Q B D x M0) (ty_int_of E c.in-Int.is) ∙ (turned (Some L) P (tests.answer (tests.is_whole D)) M0 M1 H ∙ ap (λ b. Done b M1) (sym c.is_whole.ensures.value)) }
+    record { value = ap (λ x. asked_by Q B D x M0) (int_type E c.in-Int.is) ∙ (turned (Some L) P (tests.answer (tests.is_whole D)) M0 M1 H ∙ ap (λ b. Done b M1) (sym c.is_whole.ensures.value)) }
 
 pub asked-returns-in-Any : goal.asked-returns-in-Any
 asked-returns-in-Any t c =
@@ -748,7 +749,7 @@ asked-returns-in-Any t c =
     let E = c.args.ty.now in
     let X = seen_ty c.args.ty.now in
     let H = c.in_ok-turn.ensures.value in
-    record { value = ap (λ x. asked_by Q B D x M0) (ty_any_of E c.in-Any.is) ∙ turned (Some L) P (tests.answer true) M0 M1 H }
+    record { value = ap (λ x. asked_by Q B D x M0) (any_type E c.in-Any.is) ∙ turned (Some L) P (tests.answer true) M0 M1 H }
 
 pub asked-returns-in-Void : goal.asked-returns-in-Void
 asked-returns-in-Void t c =
@@ -762,7 +763,7 @@ asked-returns-in-Void t c =
     let E = c.args.ty.now in
     let X = seen_ty c.args.ty.now in
     let H = c.in_ok-turn.ensures.value in
-    record { value = ap (λ x. asked_by Q B D x M0) (ty_void_of E c.in-Void.is) ∙ turned (Some L) P (tests.answer false) M0 M1 H }
+    record { value = ap (λ x. asked_by Q B D x M0) (void_type E c.in-Void.is) ∙ turned (Some L) P (tests.answer false) M0 M1 H }
 
 pub asked-returns-in-Record : goal.asked-returns-in-Record
 asked-returns-in-Record t c =
@@ -777,7 +778,7 @@ asked-returns-in-Record t c =
     let X = seen_ty c.args.ty.now in
     let H = c.in_ok-turn.ensures.value in
     record {
-      value = as_ty Q B D X (ty.RecordTy (field_tys_of (map (λ (f : List ℕ × code_ty.Ty). (f.0, seen_ty f.1)) c.as_slice-tys.result.now))) M0 c.parts_asked.result (meter_of c.parts_asked.new.meter) (ty_record_of E c.in-Record.tys c.as_slice-tys.result.now c.in-Record.is c.as_slice-tys.ensures)
+      value = as_ty Q B D X (ty.RecordTy (field_tys_of (map (λ (f : List ℕ × code_ty.Ty). (f.0, seen_ty f.1)) c.as_slice-tys.result.now))) M0 c.parts_asked.result (meter_of c.parts_asked.new.meter) (record_type E c.in-Record.tys c.as_slice-tys.result.now c.in-Record.is c.as_slice-tys.ensures)
           (after_turn itself (Some L) P (parts_by Q D (field_tys_of (map (λ (f : List ℕ × code_ty.Ty). (f.0, seen_ty f.1)) c.as_slice-tys.result.now))) M0 M1 c.parts_asked.result (meter_of c.parts_asked.new.meter) H
           (c.parts_asked.ensures.value));
     }
@@ -795,7 +796,7 @@ asked-returns-in-Array t c =
     let X = seen_ty c.args.ty.now in
     let H = c.in_ok-turn.ensures.value in
     record {
-      value = as_ty Q B D X (ty.ArrayTy (seen_ty c.get-item.result.now)) M0 c.items_asked.result (meter_of c.items_asked.new.meter) (ty_array_of E c.in-Array.item c.get-item.result.now c.in-Array.is c.get-item.ensures)
+      value = as_ty Q B D X (ty.ArrayTy (seen_ty c.get-item.result.now)) M0 c.items_asked.result (meter_of c.items_asked.new.meter) (array_type E c.in-Array.item c.get-item.result.now c.in-Array.is c.get-item.ensures)
           (after_turn itself (Some L) P (items_by Q D (seen_ty c.get-item.result.now)) M0 M1 c.items_asked.result (meter_of c.items_asked.new.meter) H
           (c.items_asked.ensures.value));
     }
@@ -813,7 +814,7 @@ asked-returns-in-Named t c =
     let X = seen_ty c.args.ty.now in
     let H = c.in_ok-turn.ensures.value in
     record {
-      value = as_ty Q B D X (ty.NamedTy c.in-Named.number) M0 c.name_asked.result (meter_of c.name_asked.new.meter) (ty_named_of E c.in-Named.number c.in-Named.is)
+      value = as_ty Q B D X (ty.NamedTy c.in-Named.number) M0 c.name_asked.result (meter_of c.name_asked.new.meter) (named_type E c.in-Named.number c.in-Named.is)
           (after_turn itself (Some L) P (named_by Q B D c.in-Named.number) M0 M1 c.name_asked.result (meter_of c.name_asked.new.meter) H
           (c.name_asked.ensures.value));
     }
@@ -831,7 +832,7 @@ asked-returns-in_err-within-in-Union t c =
     let X = seen_ty c.args.ty.now in
     let H = c.in_ok-turn.ensures.value in
     record {
-      value = as_ty Q B D X (ty.UnionTy (seen_ty c.get-first.result.now) (seen_ty c.get-second.result.now)) M0 c.from_residual-in_err-within-in-Union.result (meter_of c.asked.new.meter) (ty_union_of E c.in-Union.first c.get-first.result.now c.in-Union.second c.get-second.result.now c.in-Union.is c.get-first.ensures c.get-second.ensures)
+      value = as_ty Q B D X (ty.UnionTy (seen_ty c.get-first.result.now) (seen_ty c.get-second.result.now)) M0 c.from_residual-in_err-within-in-Union.result (meter_of c.asked.new.meter) (union_type E c.in-Union.first c.in-Union.second c.get-first.result.now c.get-second.result.now c.in-Union.is c.get-first.ensures c.get-second.ensures)
           (after_turn itself (Some L) P (λ m. asked_by Q B D (seen_ty c.get-first.result.now) m >>= (λ b. choose b (tests.answer true) (asked_by Q B D (seen_ty c.get-second.result.now)))) M0 M1 c.from_residual-in_err-within-in-Union.result (meter_of c.asked.new.meter) H
           (then_stops itself (asked_by Q B D (seen_ty c.get-first.result.now) M1) (λ b. choose b (tests.answer true) (asked_by Q B D (seen_ty c.get-second.result.now))) (meter_of c.asked.new.meter) c.in_err-within-in-Union.field-0.0 c.from_residual-in_err-within-in-Union.result c.in_err-within-in-Union.ensures.value c.from_residual-in_err-within-in-Union.ensures.1));
     }
@@ -849,7 +850,7 @@ asked-returns-in_err-within-in-Inter t c =
     let X = seen_ty c.args.ty.now in
     let H = c.in_ok-turn.ensures.value in
     record {
-      value = as_ty Q B D X (ty.InterTy (seen_ty c.get-first-in-Inter.result.now) (seen_ty c.get-second-in-Inter.result.now)) M0 c.from_residual-in_err-within-in-Inter.result (meter_of c.asked-in-Inter.new.meter) (ty_inter_of E c.in-Inter.first c.get-first-in-Inter.result.now c.in-Inter.second c.get-second-in-Inter.result.now c.in-Inter.is c.get-first-in-Inter.ensures c.get-second-in-Inter.ensures)
+      value = as_ty Q B D X (ty.InterTy (seen_ty c.get-first-in-Inter.result.now) (seen_ty c.get-second-in-Inter.result.now)) M0 c.from_residual-in_err-within-in-Inter.result (meter_of c.asked-in-Inter.new.meter) (inter_type E c.in-Inter.first c.in-Inter.second c.get-first-in-Inter.result.now c.get-second-in-Inter.result.now c.in-Inter.is c.get-first-in-Inter.ensures c.get-second-in-Inter.ensures)
           (after_turn itself (Some L) P (λ m. asked_by Q B D (seen_ty c.get-first-in-Inter.result.now) m >>= (λ b. choose b (asked_by Q B D (seen_ty c.get-second-in-Inter.result.now)) (tests.answer false))) M0 M1 c.from_residual-in_err-within-in-Inter.result (meter_of c.asked-in-Inter.new.meter) H
           (then_stops itself (asked_by Q B D (seen_ty c.get-first-in-Inter.result.now) M1) (λ b. choose b (asked_by Q B D (seen_ty c.get-second-in-Inter.result.now)) (tests.answer false)) (meter_of c.asked-in-Inter.new.meter) c.in_err-within-in-Inter.field-0.0 c.from_residual-in_err-within-in-Inter.result c.in_err-within-in-Inter.ensures.value c.from_residual-in_err-within-in-Inter.ensures.1));
     }
@@ -867,7 +868,7 @@ asked-returns-in_err-within-in-Not t c =
     let X = seen_ty c.args.ty.now in
     let H = c.in_ok-turn.ensures.value in
     record {
-      value = as_ty Q B D X (ty.NotTy (seen_ty c.get-operand.result.now)) M0 c.from_residual-in_err-within-in-Not.result (meter_of c.asked-in-Not.new.meter) (ty_not_of E c.in-Not.operand c.get-operand.result.now c.in-Not.is c.get-operand.ensures)
+      value = as_ty Q B D X (ty.NotTy (seen_ty c.get-operand.result.now)) M0 c.from_residual-in_err-within-in-Not.result (meter_of c.asked-in-Not.new.meter) (not_type E c.in-Not.operand c.get-operand.result.now c.in-Not.is c.get-operand.ensures)
           (after_turn itself (Some L) P (λ m. asked_by Q B D (seen_ty c.get-operand.result.now) m >>= (λ b. tests.answer (not b))) M0 M1 c.from_residual-in_err-within-in-Not.result (meter_of c.asked-in-Not.new.meter) H
           (then_stops itself (asked_by Q B D (seen_ty c.get-operand.result.now) M1) (λ b. tests.answer (not b)) (meter_of c.asked-in-Not.new.meter) c.in_err-within-in-Not.field-0.0 c.from_residual-in_err-within-in-Not.result c.in_err-within-in-Not.ensures.value c.from_residual-in_err-within-in-Not.ensures.1));
     }
@@ -885,7 +886,7 @@ asked-returns-in_ok-within-in-Not t c =
     let X = seen_ty c.args.ty.now in
     let H = c.in_ok-turn.ensures.value in
     record {
-      value = as_ty Q B D X (ty.NotTy (seen_ty c.get-operand.result.now)) M0 (Ok (not c.in_ok-within-in-Not.within)) (meter_of c.asked-in-Not.new.meter) (ty_not_of E c.in-Not.operand c.get-operand.result.now c.in-Not.is c.get-operand.ensures)
+      value = as_ty Q B D X (ty.NotTy (seen_ty c.get-operand.result.now)) M0 (Ok (not c.in_ok-within-in-Not.within)) (meter_of c.asked-in-Not.new.meter) (not_type E c.in-Not.operand c.get-operand.result.now c.in-Not.is c.get-operand.ensures)
           (after_turn itself (Some L) P (λ m. asked_by Q B D (seen_ty c.get-operand.result.now) m >>= (λ b. tests.answer (not b))) M0 M1 (Ok (not c.in_ok-within-in-Not.within)) (meter_of c.asked-in-Not.new.meter) H
           (then_is (asked_by Q B D (seen_ty c.get-operand.result.now) M1) (λ b. tests.answer (not b)) _ (meter_of c.asked-in-Not.new.meter) c.in_ok-within-in-Not.ensures.value));
     }

@@ -3,7 +3,7 @@ use Rattle.wy_value.specs.Seen.{seen}
 use Rattle.wy_probe.specs.Candidates.{is_among}
 use Rattle.wy_probe.specs.Tables.{data_in}
 use Rattle.wy_probe.proofs.ListLemmas.{among_ends, among_turn}
-use Rattle.wy_probe.proofs.SameLemmas.{same_as}
+use Rattle.wy_eval_exprs.proofs.SameLemmas.{same_as}
 use Rattle.wy_probe.proofs.lists.is_among.Goals as goal
 
 pub loop-other-preserved : goal.loop-other-preserved

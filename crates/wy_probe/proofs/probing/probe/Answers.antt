@@ -10,6 +10,6 @@ use Rattle.wy_probe.proofs.probing.probe.Goals as goal
 pub unreachable-requires : goal.unreachable-requires
 unreachable-requires c =
     let core = core_of c.args.typed.now in
-    let same : map seen_decl c.as_slice.result.now ≡ core = ap (λ l. map seen_decl l) c.as_slice.ensures ∙ c.core.ensures.value in
+    let same : map seen_decl c.as_slice.result.now ≡ core = ap (λ l. map seen_decl l) c.as_slice.ensures ∙ c.core-core.ensures.value in
     let none = subst (λ (l : Core ℕ). NoRoutine (callee (routines_of l) c.args.entry)) same c.in-None.ensures.value in
     is_routine (routines_of core) c.args.entry c.requires.routine.0 c.requires.routine.1 none

@@ -3,8 +3,8 @@ use Rattle.wy_term.specs.Nodes.{tree_at}
 use Rattle.wy_facts.specs.Seen.{AreBelow}
 use Rattle.wy_facts.proofs.StepLemmas.{stays_on}
 use Rattle.wy_prove_rounds.specs.wy_check_spec.judge.Node.{Node}
-use Rattle.wy_check_nodes.specs.Seen.{seen_branch}
-use Rattle.wy_check_nodes.proofs.SumsBranchLemmas.{branch_stays, node_stays}
+use Rattle.wy_prove_explaining.specs.wy_check_nodes.Seen.{seen_branch}
+use Rattle.wy_prove_explaining.proofs.wy_check_nodes_proofs.SumsBranchLemmas.{branch_stays, node_stays}
 use Rattle.wy_prove_rounds.specs.wy_search.StatedSeen.{seen_spot}
 use Rattle.wy_prove_leaves.specs.wy_search_laws.rounds.Leaves.{IsLeaf}
 use Rattle.wy_prove_rounds.specs.wy_prove_drafts.Draft.{seen_draft}

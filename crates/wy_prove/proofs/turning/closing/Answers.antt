@@ -1,8 +1,8 @@
 use Rattle.std.proofs.Common.{◌≡◌, ◌∙◌, true, false, inl, inr, refl, sym, ap, rules}
 use Rattle.wy_term.specs.Nodes.{tree_at}
-use Rattle.wy_check_nodes.specs.Seen.{seen_branch}
-use Rattle.wy_check_nodes.proofs.SumsBranchLemmas.{branch_stays}
-use Rattle.wy_cong.specs.Seen.{terms_of}
+use Rattle.wy_prove_explaining.specs.wy_check_nodes.Seen.{seen_branch}
+use Rattle.wy_prove_explaining.proofs.wy_check_nodes_proofs.SumsBranchLemmas.{branch_stays}
+use Rattle.wy_prove_rounds.specs.wy_cong.Seen.{terms_of}
 use Rattle.wy_prove_leaves.specs.wy_search_spec.Bounds.{ending, ending_by, replaced_forms}
 use Rattle.wy_prove_rounds.proofs.wy_search_proofs.TurnLemmas.{clashes_so, ends_so}
 use Rattle.wy_prove.specs.Turns.{is_refutation}

@@ -3,7 +3,7 @@ use Rattle.std.specs.Prelude.{IfOk, IfSome}
 use Rattle.wy_term.specs.Nodes.{tree_at}
 use Rattle.wy_facts.proofs.StepLemmas.{terms_kept}
 use Rattle.wy_prove_rounds.proofs.wy_search_bounds_proofs.GatherLemmas.{present_stays}
-use Rattle.wy_check_nodes.specs.Seen.{seen_branch}
+use Rattle.wy_prove_explaining.specs.wy_check_nodes.Seen.{seen_branch}
 use Rattle.wy_prove_leaves.specs.wy_search_spec.Expansion.{Spot}
 use Rattle.wy_prove_rounds.specs.wy_search.StatedSeen.{seen_spot}
 use Rattle.wy_prove_rounds.proofs.wy_search_proofs.SpotLemmas.{seen_stays, spot_stays}

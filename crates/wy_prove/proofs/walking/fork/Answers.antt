@@ -1,6 +1,6 @@
 use Rattle.std.proofs.Common.{◌≡◌, true, false, map, ap, sym, subst, rules}
 use Rattle.wy_term.specs.Nodes.{tree_at}
-use Rattle.wy_check_nodes.specs.Seen.{seen_branch}
+use Rattle.wy_prove_explaining.specs.wy_check_nodes.Seen.{seen_branch}
 use Rattle.wy_prove_rounds.specs.wy_search.StatedSeen.{seen_spot}
 use Rattle.wy_prove_rounds.specs.wy_prove_drafts.Progress.{Splits}
 use Rattle.wy_prove_rounds.specs.wy_prove_drafts.Draft.{seen_draft}

@@ -1,6 +1,6 @@
 use Rattle.std.proofs.Common.{◌≡◌, ◌+◌, true, false, map, refl, sym, subst, rules}
 use Rattle.wy_term.specs.Nodes.{tree_at}
-use Rattle.wy_cong.specs.Seen.{terms_of}
+use Rattle.wy_prove_rounds.specs.wy_cong.Seen.{terms_of}
 use Rattle.wy_prove_leaves.specs.wy_search_spec.Standing.{present}
 use Rattle.wy_prove_leaves.specs.wy_search_spec.Expansion.{Spot}
 use Rattle.wy_prove_rounds.specs.wy_search.StatedSeen.{seen_spot}

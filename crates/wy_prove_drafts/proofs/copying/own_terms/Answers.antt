@@ -1,6 +1,6 @@
 use Rattle.wy_facts.proofs.StepLemmas.{stays_on}
 use Rattle.wy_check_nodes.proofs.CutLemmas.{put_below}
-use Rattle.wy_check.proofs.BringLemmas.{brought_more}
+use Rattle.wy_search_laws.proofs.wy_check_proofs.BringLemmas.{brought_more}
 use Rattle.wy_prove_drafts.proofs.copying.own_terms.Goals as goal
 
 pub loop-t-preserved : goal.loop-t-preserved

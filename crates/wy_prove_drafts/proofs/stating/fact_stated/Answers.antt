@@ -1,5 +1,5 @@
 use Rattle.std.proofs.Common.{◌∙◌}
-use Rattle.wy_check.proofs.FactLemmas.{facts_are}
+use Rattle.wy_search_laws.proofs.wy_check_proofs.FactLemmas.{facts_are}
 use Rattle.wy_facts.specs.Seen.{terms_at}
 use Rattle.wy_term.specs.Condition.{condition_of}
 use Rattle.wy_prove_drafts.proofs.stating.fact_stated.Goals as goal

@@ -1,7 +1,7 @@
 use Rattle.std.proofs.Common.{◌≡◌, ◌∙◌, [], ◌∷◌, Bool, true, false, cond, ap, refl, rules, subst, sym}
 use Rattle.wy_prove_drafts.specs.Draft.{seen_draft}
 use Rattle.wy_prove_drafts.specs.wy_check_spec.judge.Node.{Node}
-use Rattle.wy_check_nodes.specs.Seen.{signed}
+use Rattle.wy_prove_drafts.specs.wy_check_nodes.Seen.{signed}
 use Rattle.wy_prove_drafts.specs.wy_search_spec.Expansion.{with_pairs_of, with_some}
 use Rattle.wy_search.proofs.wy_search_facts_proofs.DenialLemmas.{no_pair, pair_none}
 use Rattle.wy_term.specs.Condition.{condition_of}

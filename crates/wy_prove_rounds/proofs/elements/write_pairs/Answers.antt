@@ -2,11 +2,11 @@ use Rattle.std.proofs.Common.{◌≡◌, ◌≤◌, List, map, length, refl, sym
 use Rattle.wy_facts.proofs.SharedLemmas.{types_stay}
 use Rattle.wy_facts.proofs.StepLemmas.{stays_on, stays_same}
 use Rattle.wy_prove_drafts.specs.wy_check_spec.judge.Node.{Node}
-use Rattle.wy_check_nodes.specs.Seen.{seen_formula}
-use Rattle.wy_check_nodes.proofs.SumsBranchLemmas.{branch_stays, node_stays}
+use Rattle.wy_prove_drafts.specs.wy_check_nodes.Seen.{seen_formula}
+use Rattle.wy_prove_drafts.proofs.wy_check_nodes_proofs.SumsBranchLemmas.{branch_stays, node_stays}
 use Rattle.wy_prove_drafts.specs.Draft.{seen_draft}
 use Rattle.wy_prove_drafts.specs.wy_search_spec.Expansion.{with_pairs, with_pairs_of}
-use Rattle.wy_check_splits.proofs.SharedLemmas.{formula_kept, within_now}
+use Rattle.wy_prove_drafts.proofs.wy_check_splits_proofs.SharedLemmas.{formula_kept, within_now}
 use Rattle.wy_search.proofs.wy_search_facts_proofs.AddingLemmas.{types_up}
 use Rattle.wy_term.specs.Condition.{Entry, condition_of}
 use Rattle.wy_term.specs.Nodes.{tree_at}

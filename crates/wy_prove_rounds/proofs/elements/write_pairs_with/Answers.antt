@@ -3,7 +3,7 @@ use Rattle.std.specs.Prelude.{is_some}
 use Rattle.wy_prove_drafts.specs.Draft.{seen_draft}
 use Rattle.wy_facts.specs.Schema.{as_element}
 use Rattle.wy_prove_drafts.specs.wy_check_spec.judge.Node.{Node}
-use Rattle.wy_check_nodes.specs.Seen.{seen_formula, signed}
+use Rattle.wy_prove_drafts.specs.wy_check_nodes.Seen.{seen_formula, signed}
 use Rattle.wy_prove_drafts.specs.wy_search_spec.Expansion.{with_pairs_of}
 use Rattle.wy_search.proofs.wy_search_facts_proofs.DenialLemmas.{is_none, pairs_none}
 use Rattle.wy_term.specs.Condition.{condition_of}

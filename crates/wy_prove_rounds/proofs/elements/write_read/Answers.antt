@@ -1,7 +1,7 @@
 use Rattle.std.proofs.Common.{◌≡◌, ◌∙◌, Bool, true, false, ap, rules, subst, sym}
 use Rattle.wy_prove_drafts.specs.Draft.{seen_draft}
 use Rattle.wy_prove_drafts.specs.wy_check_spec.judge.Node.{Node}
-use Rattle.wy_check_nodes.specs.Seen.{signed}
+use Rattle.wy_prove_drafts.specs.wy_check_nodes.Seen.{signed}
 use Rattle.wy_prove_drafts.specs.wy_search_spec.Expansion.{read_from, with_elements}
 use Rattle.wy_search.proofs.wy_search_facts_proofs.ElementLemmas.{elements_are}
 use Rattle.wy_term.specs.Condition.{condition_of}

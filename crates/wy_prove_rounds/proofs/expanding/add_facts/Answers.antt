@@ -7,8 +7,8 @@ use Rattle.wy_facts.proofs.SharedLemmas.{types_stay}
 use Rattle.wy_facts.specs.Seen.{AreBelow}
 use Rattle.wy_facts.proofs.StepLemmas.{stays_on}
 use Rattle.wy_prove_drafts.specs.wy_check_spec.judge.Node.{with_formulas}
-use Rattle.wy_check_nodes.specs.Seen.{seen_branch}
-use Rattle.wy_check_nodes.proofs.SumsBranchLemmas.{branch_stays, node_stays}
+use Rattle.wy_prove_drafts.specs.wy_check_nodes.Seen.{seen_branch}
+use Rattle.wy_prove_drafts.proofs.wy_check_nodes_proofs.SumsBranchLemmas.{branch_stays, node_stays}
 use Rattle.wy_lemmas.proofs.Options.{on_ok}
 use Rattle.wy_prove_drafts.specs.wy_search_spec.Expansion.{with_facts}
 use Rattle.wy_search.specs.Turns.{begun}

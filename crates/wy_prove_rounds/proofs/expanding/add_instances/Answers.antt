@@ -6,8 +6,8 @@ use Rattle.wy_prove_drafts.proofs.DraftLemmas.{draft_stays, seen_draft_stays}
 use Rattle.wy_facts.proofs.StepLemmas.{below_kept, stays_on, terms_kept}
 use Rattle.wy_facts.specs.Seen.{AreBelow}
 use Rattle.wy_prove_drafts.specs.wy_check_spec.judge.Node.{Node}
-use Rattle.wy_check_nodes.specs.Seen.{seen_branch}
-use Rattle.wy_check_nodes.proofs.SumsBranchLemmas.{branch_stays, node_stays}
+use Rattle.wy_prove_drafts.specs.wy_check_nodes.Seen.{seen_branch}
+use Rattle.wy_prove_drafts.proofs.wy_check_nodes_proofs.SumsBranchLemmas.{branch_stays, node_stays}
 use Rattle.wy_lemmas.proofs.Options.{on_ok}
 use Rattle.wy_prove_drafts.specs.wy_search_spec.Expansion.{everything, indices_in, with_instances}
 use Rattle.wy_prove_drafts.specs.wy_search_spec.Standing.{with_unbound}

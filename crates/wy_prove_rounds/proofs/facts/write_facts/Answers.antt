@@ -3,8 +3,8 @@ use Rattle.wy_prove_drafts.specs.Draft.{seen_draft}
 use Rattle.wy_facts.proofs.SharedLemmas.{types_stay}
 use Rattle.wy_facts.proofs.StepLemmas.{stays_on, stays_same}
 use Rattle.wy_prove_drafts.specs.wy_check_spec.judge.Node.{Node}
-use Rattle.wy_check_nodes.specs.Seen.{seen_branch, seen_formula}
-use Rattle.wy_check_nodes.proofs.SumsBranchLemmas.{branch_stays, node_stays}
+use Rattle.wy_prove_drafts.specs.wy_check_nodes.Seen.{seen_branch, seen_formula}
+use Rattle.wy_prove_drafts.proofs.wy_check_nodes_proofs.SumsBranchLemmas.{branch_stays, node_stays}
 use Rattle.wy_prove_drafts.specs.wy_search_spec.Expansion.{with_facts_by, with_schemas}
 use Rattle.wy_prove_drafts.specs.wy_search_spec.Standing.{standing}
 use Rattle.wy_search.proofs.wy_search_facts_proofs.AddingLemmas.{types_up}

@@ -2,7 +2,7 @@ use Rattle.std.proofs.Common.{◌-◌}
 use Rattle.wy_prove_drafts.specs.wy_search_laws.rounds.Leaves.{IsFoldedThroughout, IsSortedThroughout}
 use Rattle.wy_prove_drafts.specs.Draft.{IsDraft, seen_draft}
 use Rattle.wy_facts.specs.Seen.{Stays}
-use Rattle.wy_check_nodes.specs.Seen.{seen_branch}
+use Rattle.wy_prove_drafts.specs.wy_check_nodes.Seen.{seen_branch}
 use Rattle.wy_prove_drafts.specs.wy_search_spec.Expansion.{with_schemas}
 use Rattle.wy_prove_drafts.specs.wy_search_spec.Standing.{standing}
 use Rattle.wy_term.specs.Condition.{condition_of}

@@ -1,6 +1,6 @@
 use Rattle.std.proofs.Common.{◌≡◌, ◌≢◌, ℕ, map, ap, rules, sym}
 use Rattle.wy_prove_drafts.specs.wy_check_spec.judge.Node.{Node}
-use Rattle.wy_check_nodes.specs.Seen.{seen_branch, seen_formula}
+use Rattle.wy_prove_drafts.specs.wy_check_nodes.Seen.{seen_branch, seen_formula}
 use Rattle.wy_prove_drafts.specs.wy_search_spec.Expansion.{with_facts_by}
 use Rattle.wy_search.proofs.wy_search_facts_proofs.SchemaLemmas.{plain_is}
 use Rattle.wy_term.specs.Condition.{condition_of}

@@ -2,10 +2,10 @@ use Rattle.std.proofs.Common.{◌≡◌, ◌≤◌, List, true, map, length, ref
 use Rattle.wy_prove_drafts.specs.Draft.{seen_draft}
 use Rattle.wy_facts.proofs.StepLemmas.{below_kept, stays_on, stays_same, terms_kept}
 use Rattle.wy_prove_drafts.specs.wy_check_spec.judge.Node.{Literal, Node, has_literal}
-use Rattle.wy_check_nodes.specs.Seen.{seen_branch, seen_literal}
-use Rattle.wy_check_nodes.proofs.SumsBranchLemmas.{branch_stays}
+use Rattle.wy_prove_drafts.specs.wy_check_nodes.Seen.{seen_branch, seen_literal}
+use Rattle.wy_prove_drafts.proofs.wy_check_nodes_proofs.SumsBranchLemmas.{branch_stays}
 use Rattle.wy_prove_drafts.specs.wy_search_spec.Expansion.{with_instances, with_instances_by}
-use Rattle.wy_check_splits.proofs.WalkLemmas.{member_below}
+use Rattle.wy_prove_drafts.proofs.wy_check_splits_proofs.WalkLemmas.{member_below}
 use Rattle.wy_term.specs.Condition.{Entry}
 use Rattle.wy_term.specs.Nodes.{tree_at}
 use Rattle.wy_term.specs.Term.{Term}

@@ -2,7 +2,7 @@ use Rattle.std.proofs.Common.{◌≡◌, Option, false, map, ap, rules, sym}
 use Rattle.std.specs.Prelude.{is_some}
 use Rattle.wy_prove_drafts.specs.Draft.{seen_draft}
 use Rattle.wy_prove_drafts.specs.wy_check_spec.judge.Node.{Node}
-use Rattle.wy_check_nodes.specs.Seen.{seen_literal}
+use Rattle.wy_prove_drafts.specs.wy_check_nodes.Seen.{seen_literal}
 use Rattle.wy_prove_drafts.specs.wy_search_spec.Expansion.{with_instances_by}
 use Rattle.wy_search.proofs.wy_search_facts_proofs.DenialLemmas.{is_none}
 use Rattle.wy_term.specs.Nodes.{tree_at}

@@ -3,7 +3,7 @@ use Rattle.std.proofs.lemmas.Option.{slice_get-get_or}
 use Rattle.wy_prove_drafts.specs.Draft.{seen_draft}
 use Rattle.wy_facts.proofs.StepLemmas.{stays_on, stays_same}
 use Rattle.wy_prove_drafts.specs.wy_check_spec.judge.Node.{Node, has_literal}
-use Rattle.wy_check_nodes.specs.Seen.{seen_literal}
+use Rattle.wy_prove_drafts.specs.wy_check_nodes.Seen.{seen_literal}
 use Rattle.wy_prove_drafts.specs.wy_search_spec.Expansion.{with_instances_by}
 use Rattle.wy_term.specs.Condition.{Entry}
 use Rattle.wy_term.specs.Nodes.{tree_at}

@@ -1,7 +1,7 @@
 use Rattle.std.proofs.Common.{◌≡◌, true, false, ap, rules, subst}
 use Rattle.wy_prove_drafts.specs.Draft.{seen_draft}
 use Rattle.wy_prove_drafts.specs.wy_check_spec.judge.Node.{Node, has_literal}
-use Rattle.wy_check_nodes.specs.Seen.{seen_branch}
+use Rattle.wy_prove_drafts.specs.wy_check_nodes.Seen.{seen_branch}
 use Rattle.wy_lemmas.proofs.Options.{on_ok}
 use Rattle.wy_prove_drafts.specs.wy_search_spec.Expansion.{kind_fact, with_some}
 use Rattle.wy_term_subst.specs.sorted.Sorted.{IsSorted}

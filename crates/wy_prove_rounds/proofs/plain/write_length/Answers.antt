@@ -1,14 +1,14 @@
 use Rattle.std.proofs.Common.{◌≡◌, ◌∙◌, List, [], ◌∷◌, Bool, true, false, ap, rules, subst, sym}
 use Rattle.wy_prove_drafts.specs.Draft.{seen_draft}
 use Rattle.wy_prove_drafts.specs.wy_check_spec.judge.Node.{Node}
-use Rattle.wy_check_nodes.specs.Seen.{signed}
+use Rattle.wy_prove_drafts.specs.wy_check_nodes.Seen.{signed}
 use Rattle.wy_prove_drafts.specs.wy_search_spec.Expansion.{measured, with_facts_of_one}
 use Rattle.wy_prove_drafts.specs.wy_check_laws.sound.Sortedness.{AreSortedTerms}
 use Rattle.wy_term.specs.Condition.{condition_of}
 use Rattle.wy_term.specs.Nodes.{tree_at}
 use Rattle.wy_term.specs.Term.{Term}
 use Rattle.wy_prove_rounds.specs.Moving.{IsFit}
-use Rattle.wy_prove_rounds.proofs.FactLemmas.{measured_sorted}
+use Rattle.wy_prove_drafts.proofs.wy_search_laws_proofs.closing_lemmas.SortedLemmas.{measured_sorted}
 use Rattle.wy_prove_rounds.proofs.MovingLemmas.{if_moves, moves_none}
 use Rattle.wy_prove_rounds.proofs.plain.write_length.Goals as goal
 

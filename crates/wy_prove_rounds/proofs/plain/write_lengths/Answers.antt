@@ -2,10 +2,10 @@ use Rattle.std.proofs.Common.{◌≤◌, List, length, refl, sym, subst, rules}
 use Rattle.wy_facts.proofs.SharedLemmas.{types_stay}
 use Rattle.wy_facts.proofs.StepLemmas.{stays_on, stays_same}
 use Rattle.wy_prove_drafts.specs.wy_check_spec.judge.Node.{Node}
-use Rattle.wy_check_nodes.specs.Seen.{seen_formula}
+use Rattle.wy_prove_drafts.specs.wy_check_nodes.Seen.{seen_formula}
 use Rattle.wy_prove_drafts.specs.Draft.{seen_draft}
 use Rattle.wy_prove_drafts.specs.wy_search_spec.Expansion.{with_facts_of_one, all_measured, measured}
-use Rattle.wy_check_splits.proofs.SharedLemmas.{formula_kept, within_now}
+use Rattle.wy_prove_drafts.proofs.wy_check_splits_proofs.SharedLemmas.{formula_kept, within_now}
 use Rattle.wy_search.proofs.wy_search_facts_proofs.AddingLemmas.{facts_joined, types_up}
 use Rattle.wy_term.specs.Condition.{Entry, condition_of}
 use Rattle.wy_term.specs.Nodes.{tree_at}

@@ -1,6 +1,6 @@
 use Rattle.std.proofs.Common.{◌≡◌, None}
 use Rattle.wy_prove_drafts.specs.Draft.{seen_draft}
-use Rattle.wy_check_nodes.specs.Seen.{seen_branch, seen_literal}
+use Rattle.wy_prove_drafts.specs.wy_check_nodes.Seen.{seen_branch, seen_literal}
 use Rattle.wy_term.specs.Nodes.{tree_at}
 use Rattle.wy_prove_drafts.specs.wy_check_spec.valid.Literals.{literal_at}
 use Rattle.wy_prove_rounds.proofs.ProductMoves.{if_lacking, if_there}

@@ -3,7 +3,7 @@ use Rattle.std.specs.Prelude.{IfNone, IfSome}
 use Rattle.wy_search.proofs.wy_search_bounds_proofs.ProductLemmas.{pushed}
 use Rattle.wy_prove_drafts.specs.Draft.{seen_draft}
 use Rattle.wy_prove_drafts.specs.wy_check_spec.judge.Node.{has_literal}
-use Rattle.wy_check_nodes.specs.Seen.{seen_branch}
+use Rattle.wy_prove_drafts.specs.wy_check_nodes.Seen.{seen_branch}
 use Rattle.wy_prove_drafts.specs.wy_search_spec.Expansion.{with_some}
 use Rattle.wy_term.specs.Nodes.{tree_at}
 use Rattle.wy_prove_drafts.specs.wy_check_spec.valid.Literals.{literal_at}

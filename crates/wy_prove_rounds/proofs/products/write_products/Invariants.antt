@@ -3,7 +3,7 @@ use Rattle.wy_search.specs.wy_search_bounds.Known.{AreKnown}
 use Rattle.wy_prove_drafts.specs.wy_search_laws.rounds.Leaves.{IsFoldedThroughout, IsSortedThroughout}
 use Rattle.wy_prove_drafts.specs.Draft.{IsDraft, seen_draft}
 use Rattle.wy_facts.specs.Seen.{Stays}
-use Rattle.wy_check_nodes.specs.Seen.{seen_branch, seen_formula}
+use Rattle.wy_prove_drafts.specs.wy_check_nodes.Seen.{seen_branch, seen_formula}
 use Rattle.wy_prove_drafts.specs.wy_search_spec.Expansion.{with_products_by}
 use Rattle.wy_term.specs.Condition.{Entry}
 use Rattle.wy_term.specs.Nodes.{tree_at}

@@ -6,8 +6,8 @@ use Rattle.wy_prove_drafts.specs.Draft.{seen_draft}
 use Rattle.wy_prove_drafts.proofs.DraftLemmas.{draft_stays, seen_draft_stays}
 use Rattle.wy_facts.proofs.StepLemmas.{stays_on}
 use Rattle.wy_prove_drafts.specs.wy_check_spec.judge.Node.{Node}
-use Rattle.wy_check_nodes.specs.Seen.{seen_branch}
-use Rattle.wy_check_nodes.proofs.SumsBranchLemmas.{branch_stays, node_stays}
+use Rattle.wy_prove_drafts.specs.wy_check_nodes.Seen.{seen_branch}
+use Rattle.wy_prove_drafts.proofs.wy_check_nodes_proofs.SumsBranchLemmas.{branch_stays, node_stays}
 use Rattle.wy_lin.specs.TermForm.{form_of}
 use Rattle.wy_prove_drafts.specs.wy_search_spec.Expansion.{with_four}
 use Rattle.wy_term.specs.Nodes.{tree_at}

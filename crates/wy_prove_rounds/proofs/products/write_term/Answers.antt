@@ -1,7 +1,7 @@
 use Rattle.std.proofs.Common.{◌≡◌, ◌∙◌, Option, Some, None, Bool, true, false, ap, rules, subst, sym}
 use Rattle.wy_prove_drafts.specs.Draft.{seen_draft}
 use Rattle.wy_prove_drafts.specs.wy_check_spec.judge.Node.{Node}
-use Rattle.wy_check_nodes.specs.Seen.{seen_branch, signed}
+use Rattle.wy_prove_drafts.specs.wy_check_nodes.Seen.{seen_branch, signed}
 use Rattle.wy_prove_drafts.specs.wy_search_spec.Expansion.{with_products_of}
 use Rattle.wy_term.specs.Nodes.{tree_at}
 use Rattle.wy_term.specs.Term.{Term}

@@ -3,7 +3,7 @@ use Rattle.wy_search.proofs.wy_search_bounds_proofs.ProductLemmas.{none_first, n
 use Rattle.wy_search.specs.wy_search_bounds.Bounds.{AreBounds}
 use Rattle.wy_search.specs.wy_search_bounds.declared.tightest.Bound.{Bound}
 use Rattle.wy_prove_drafts.specs.Draft.{seen_draft}
-use Rattle.wy_check_nodes.specs.Seen.{seen_branch}
+use Rattle.wy_prove_drafts.specs.wy_check_nodes.Seen.{seen_branch}
 use Rattle.wy_term.specs.Nodes.{tree_at}
 use Rattle.wy_prove_rounds.proofs.MovingLemmas.{moves_none}
 use Rattle.wy_prove_rounds.proofs.products.write_two.Goals as goal

@@ -2,7 +2,7 @@ use Rattle.std.proofs.Common.{◌≡◌, List, map, subst, sym}
 use Rattle.wy_prove_drafts.specs.Draft.{seen_draft}
 use Rattle.wy_facts.proofs.SharedLemmas.{types_stay}
 use Rattle.wy_facts.proofs.StepLemmas.{stays_on}
-use Rattle.wy_check_nodes.specs.Seen.{seen_branch}
+use Rattle.wy_prove_drafts.specs.wy_check_nodes.Seen.{seen_branch}
 use Rattle.wy_lemmas.proofs.Options.{on_ok}
 use Rattle.wy_prove_drafts.specs.wy_search_spec.Expansion.{with_facts, with_instances, with_products}
 use Rattle.wy_search.specs.Turns.{begun, index_terms_in}

@@ -5,8 +5,8 @@ use Rattle.wy_facts.proofs.SharedLemmas.{types_stay}
 use Rattle.wy_facts.proofs.StepLemmas.{stays_on, terms_kept, below_kept}
 use Rattle.wy_facts.specs.Seen.{AreBelow}
 use Rattle.wy_prove_drafts.specs.wy_check_spec.judge.Node.{Node}
-use Rattle.wy_check_nodes.specs.Seen.{seen_branch}
-use Rattle.wy_check_nodes.proofs.SumsBranchLemmas.{branch_stays, node_stays}
+use Rattle.wy_prove_drafts.specs.wy_check_nodes.Seen.{seen_branch}
+use Rattle.wy_prove_drafts.proofs.wy_check_nodes_proofs.SumsBranchLemmas.{branch_stays, node_stays}
 use Rattle.wy_prove_drafts.specs.wy_search_spec.Expansion.{Spot, expanded, with_instances, with_facts, with_products}
 use Rattle.wy_search.specs.Turns.{begun, index_terms_in}
 use Rattle.wy_search.proofs.RoundLemmas.{round_made}

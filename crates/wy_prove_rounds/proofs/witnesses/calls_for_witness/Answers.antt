@@ -1,6 +1,6 @@
 use Rattle.std.proofs.Common.{◌∙◌, Option, ap}
 use Rattle.std.specs.Prelude.{is_some}
-use Rattle.wy_check_splits.specs.Seen.{seen_range}
+use Rattle.wy_prove_drafts.specs.wy_check_splits.Seen.{seen_range}
 use Rattle.wy_term.specs.Nodes.{tree_at}
 use Rattle.wy_prove_drafts.specs.wy_check_spec.valid.Ranges.{Range}
 use Rattle.wy_prove_rounds.proofs.RangeMoves.{some_mapped}

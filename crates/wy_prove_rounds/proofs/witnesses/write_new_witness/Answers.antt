@@ -3,8 +3,8 @@ use Rattle.std.specs.Prelude.{is_some}
 use Rattle.wy_search.proofs.wy_search_bounds_proofs.KnownLemmas.{on_ok_anyway}
 use Rattle.wy_prove_drafts.specs.Draft.{seen_draft}
 use Rattle.wy_prove_drafts.specs.wy_check_spec.judge.Node.{Literal, Node, has_literal}
-use Rattle.wy_check_nodes.specs.Seen.{seen_branch, seen_literal}
-use Rattle.wy_check_nodes.proofs.SumsBranchLemmas.{branch_stays, node_stays}
+use Rattle.wy_prove_drafts.specs.wy_check_nodes.Seen.{seen_branch, seen_literal}
+use Rattle.wy_prove_drafts.proofs.wy_check_nodes_proofs.SumsBranchLemmas.{branch_stays, node_stays}
 use Rattle.wy_lemmas.proofs.Options.{on_ok}
 use Rattle.wy_prove_drafts.specs.wy_search_spec.Expansion.{Spot}
 use Rattle.wy_search.proofs.wy_search_facts_proofs.DenialLemmas.{is_none}

@@ -2,11 +2,11 @@ use Rattle.std.proofs.Common.{◌≡◌, ◌∙◌, ◌≤◌, List, true, map, 
 use Rattle.wy_prove_drafts.specs.Draft.{seen_draft}
 use Rattle.wy_facts.proofs.StepLemmas.{stays_on, stays_same}
 use Rattle.wy_prove_drafts.specs.wy_check_spec.judge.Node.{Literal, Node, has_literal}
-use Rattle.wy_check_nodes.specs.Seen.{seen_literal}
-use Rattle.wy_check_nodes.proofs.SumsBranchLemmas.{branch_stays}
+use Rattle.wy_prove_drafts.specs.wy_check_nodes.Seen.{seen_literal}
+use Rattle.wy_prove_drafts.proofs.wy_check_nodes_proofs.SumsBranchLemmas.{branch_stays}
 use Rattle.wy_prove_drafts.specs.wy_search_spec.Expansion.{Spot, with_witness, with_witnesses}
 use Rattle.wy_search.proofs.SpotLemmas.{copy_over, same_node}
-use Rattle.wy_check_splits.proofs.WalkLemmas.{member_below}
+use Rattle.wy_prove_drafts.proofs.wy_check_splits_proofs.WalkLemmas.{member_below}
 use Rattle.wy_search.specs.wy_search_facts.Seen.{seen_spot}
 use Rattle.wy_term.specs.Nodes.{tree_at}
 use Rattle.wy_term.specs.Term.{Term}

@@ -1,7 +1,7 @@
 use Rattle.std.proofs.Common.{◌≡◌, List, map, take}
 use Rattle.wy_prove_drafts.specs.Draft.{IsDraft, seen_draft}
 use Rattle.wy_facts.specs.Seen.{Stays}
-use Rattle.wy_check_nodes.specs.Seen.{IsBranch, seen_branch, seen_literal}
+use Rattle.wy_prove_drafts.specs.wy_check_nodes.Seen.{IsBranch, seen_branch, seen_literal}
 use Rattle.wy_prove_drafts.specs.wy_search_spec.Expansion.{with_witnesses}
 use Rattle.wy_search.specs.wy_search_facts.Seen.{seen_spot}
 use Rattle.wy_term.specs.Condition.{Entry}

@@ -1,7 +1,7 @@
 use Rattle.std.proofs.Common.{◌≡◌, ◌∙◌, true, false, sym, rules}
 use Rattle.wy_term.specs.Nodes.{tree_at}
 use Rattle.wy_check_nodes.specs.Seen.{seen_branch}
-use Rattle.wy_cong.specs.Seen.{terms_of}
+use Rattle.wy_search_bounds.specs.wy_cong.Seen.{terms_of}
 use Rattle.wy_search_bounds.specs.Seen.{seen_ending}
 use Rattle.wy_search.proofs.TurnLemmas.{clash_closes, clashes_so, ends_by, ends_so, shut_closes}
 use Rattle.wy_search.proofs.turning.ending_of.Goals as goal

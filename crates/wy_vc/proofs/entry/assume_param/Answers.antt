@@ -1,6 +1,6 @@
 use Rattle.std.proofs.Common.{List, ℕ, Option, refl, sym, subst}
 use Rattle.wy_core.specs.CoreSeen.{seen_param}
-use Rattle.wy_vc_operations.specs.Growing.{AreSlotsAt}
+use Rattle.wy_vc_body.specs.wy_vc_operations.Growing.{AreSlotsAt}
 use Rattle.wy_vc_tables.specs.program_names.Described.{setting}
 use Rattle.wy_vc_body.specs.wy_vc_exprs.Slots.{slots_of}
 use Rattle.wy_vc_body.specs.wy_vc_exprs.declared.walk.Walk.{Walk}

@@ -2,7 +2,7 @@ use Rattle.std.proofs.Common.{List, ℕ, refl, subst}
 use Rattle.wy_vc_spec.specs.Making.{val_name}
 use Rattle.wy_vc_body.proofs.wy_vc_exprs_proofs.StepLemmas.{name_count}
 use Rattle.wy_vc_tables.specs.program_names.Described.{setting}
-use Rattle.wy_vc_operations.specs.Growing.{Makes}
+use Rattle.wy_vc_body.specs.wy_vc_operations.Growing.{Makes}
 use Rattle.wy_vc_body.proofs.wy_vc_exprs_proofs.StateLemmas.{sound_made}
 use Rattle.wy_vc_body.proofs.wy_vc_exprs_proofs.GivenLemmas.{name_made}
 use Rattle.wy_vc.proofs.EntryLemmas.{output_entered}

@@ -1,7 +1,7 @@
 use Rattle.std.proofs.Common.{List, Option, ℕ, length, sym, subst}
 use Rattle.wy_core.specs.CoreSeen.{seen_exprs}
 use Rattle.wy_core.specs.CoreTree.{exprs_of}
-use Rattle.wy_vc_operations.specs.Growing.{AreBelow}
+use Rattle.wy_vc_body.specs.wy_vc_operations.Growing.{AreBelow}
 use Rattle.wy_vc_body.specs.wy_vc_exprs.Slots.{AreSlots}
 use Rattle.wy_vc.proofs.SimpleLemmas.{called_went, walked_all_by}
 use Rattle.wy_vc.proofs.simple.call_method.Goals as goal

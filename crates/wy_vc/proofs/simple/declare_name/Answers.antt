@@ -1,7 +1,7 @@
 use Rattle.std.proofs.Common.{List, ℕ, refl, subst}
 use Rattle.wy_vc_spec.specs.Making.{val_name}
 use Rattle.wy_vc_spec.specs.Values.{word_at}
-use Rattle.wy_vc_operations.specs.Growing.{Makes}
+use Rattle.wy_vc_body.specs.wy_vc_operations.Growing.{Makes}
 use Rattle.wy_vc_body.specs.wy_vc_exprs.declared.walk.Walk.{Walk}
 use Rattle.wy_vc.proofs.SimpleLemmas.{declared_went}
 use Rattle.wy_vc.proofs.simple.declare_name.Goals as goal

@@ -24,7 +24,7 @@ use Rattle.wy_vc.proofs.EndLemmas.{end_are}
 use Rattle.wy_vc.proofs.FlowLemmas.{node_end, node_stop, within_begin, within_end, within_stop, within_turn}
 use Rattle.wy_vc.proofs.FormLemmas.{assign_of, call_of, if_of, while_of}
 use Rattle.wy_vc.proofs.statements.+exec.Goals as goal
-use Rattle.wy_vc_operations.proofs.GrowingLemmas.{here_kept}
+use Rattle.wy_vc_body.proofs.wy_vc_operations_proofs.GrowingLemmas.{here_kept}
 
 pub exec-returns-in-Declare-clause-value : goal.exec-returns-in-Declare-clause-value
 exec-returns-in-Declare-clause-value t c =

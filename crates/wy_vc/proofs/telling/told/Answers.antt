@@ -1,6 +1,6 @@
 use Rattle.std.proofs.Common.{◌++◌, ◌∷◌, [], refl, ◌∙◌, ap, sym, subst, List, ℕ, length}
 use Rattle.wy_term.specs.declared.cond.Cond.{Cond}
-use Rattle.wy_vc_operations.specs.Growing.{AreBelow}
+use Rattle.wy_vc_body.specs.wy_vc_operations.Growing.{AreBelow}
 use Rattle.wy_vc.specs.Told.{entries_by}
 use Rattle.wy_vc.proofs.ToldLemmas.{told_is, told_within}
 use Rattle.wy_vc.proofs.telling.told.Goals as goal

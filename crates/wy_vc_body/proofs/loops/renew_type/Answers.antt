@@ -3,7 +3,7 @@ use Rattle.wy_core.specs.CoreSeen.{seen_ty}
 use Rattle.wy_core.specs.declared.types.Ty.{Ty}
 use Rattle.wy_sem.specs.Statements.{type_at}
 use Rattle.wy_term.specs.Nodes.{tree_at}
-use Rattle.wy_vc_operations.specs.Growing.{AreSlotsAt}
+use Rattle.wy_vc_exprs.specs.wy_vc_operations.Growing.{AreSlotsAt}
 use Rattle.wy_vc_body.specs.Frames.{body_at}
 use Rattle.wy_vc_body.specs.Types.{types_in}
 use Rattle.wy_vc_exprs.specs.Slots.{slots_of}

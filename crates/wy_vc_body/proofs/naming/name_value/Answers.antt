@@ -2,7 +2,7 @@ use Rattle.std.proofs.Common.{refl}
 use Rattle.wy_vc_exprs.proofs.NumberedLemmas.{at_itself}
 use Rattle.wy_vc_body.proofs.NamingLemmas.{named_steps}
 use Rattle.wy_vc_body.proofs.naming.name_value.Goals as goal
-use Rattle.wy_vc_operations.proofs.GrowingLemmas.{here_kept}
+use Rattle.wy_vc_exprs.proofs.wy_vc_operations_proofs.GrowingLemmas.{here_kept}
 
 pub returns-clause-value : goal.returns-clause-value
 returns-clause-value c =

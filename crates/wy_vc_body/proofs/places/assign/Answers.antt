@@ -8,7 +8,7 @@ use Rattle.wy_vc_exprs.specs.wy_vc_spec.Sizes.{exprs_in_path}
 use Rattle.wy_vc_exprs.specs.wy_vc_spec.Statements as spec
 use Rattle.wy_sem.specs.Statements.{type_at}
 use Rattle.wy_term.specs.Nodes.{tree_at}
-use Rattle.wy_vc_operations.specs.Growing.{AreSlotsAt}
+use Rattle.wy_vc_exprs.specs.wy_vc_operations.Growing.{AreSlotsAt}
 use Rattle.wy_vc_body.specs.Frames.{body_at}
 use Rattle.wy_vc_body.specs.Types.{or_any, types_in}
 use Rattle.wy_vc_exprs.specs.Walking.{walk_of}

@@ -9,7 +9,7 @@ use Rattle.wy_vc_exprs.proofs.NumberedLemmas.{at_itself}
 use Rattle.wy_vc_body.specs.Frames.{body_at}
 use Rattle.wy_vc_body.proofs.PlaceLemmas.{element_step}
 use Rattle.wy_vc_body.proofs.places.step_in_array.Goals as goal
-use Rattle.wy_vc_operations.proofs.GrowingLemmas.{here_kept}
+use Rattle.wy_vc_exprs.proofs.wy_vc_operations_proofs.GrowingLemmas.{here_kept}
 
 pub returns-clause-value : goal.returns-clause-value
 returns-clause-value c =

@@ -15,7 +15,8 @@ use Rattle.wy_vc_exprs.proofs.ArmLemmas.{neg_arm, not_arm, len_arm, field_arm, i
 use Rattle.wy_vc_exprs.specs.Walking.{walk_of}
 use Rattle.wy_vc_exprs.proofs.LessLemmas.{right_falls, index_falls, count_falls, to_falls, body_falls}
 use Rattle.wy_vc_exprs.proofs.ListLemmas.{exprs_begin, exprs_more, exprs_end, exprs_node, fields_begin, fields_more, fields_end, fields_node, next_expr, no_expr, next_field, no_field, named_numbers, names_made, numbers_more, names_more, names_end}
-use Rattle.wy_vc_exprs.proofs.FormLemmas.{as_form, null_of, bool_of, int_of, var_of, call_of, neg_of, not_of, len_of, binary_of, is_of, index_of, field_of, list_of, repeat_of, node_behind, record_of, quant_of}
+use Rattle.wy_vc_exprs.proofs.FormLemmas.{as_form, node_behind}
+use Rattle.wy_vc_terms.proofs.ExpressionKinds.{null_of, bool_of, int_of, var_of, call_of, neg_of, not_of, len_of, binary_of, is_of, index_of, field_of, list_of, repeat_of, record_of, quant_of}
 use Rattle.wy_vc_exprs.proofs.expressions.+walked.Goals as goal
 
 pub walked-returns-in-Null-clause-value : goal.walked-returns-in-Null-clause-value

@@ -3,7 +3,7 @@ use Rattle.std.proofs.lemmas.Bool.Decides.{nat_tests}
 use Rattle.std.proofs.lemmas.List.{length-map}
 use Rattle.wy_term.specs.Nodes.{tree_at}
 use Rattle.wy_facts.specs.Seen.{terms_at}
-use Rattle.wy_check_nodes.specs.Seen.{seen_literal, seen_formula}
+use Rattle.wy_prove_drafts.specs.wy_check_nodes.Seen.{seen_literal, seen_formula}
 use Rattle.wy_prove_drafts.specs.Draft.{seen_draft}
 use Rattle.wy_prove_leaves.proofs.linked_lemmas.GrownLemmas.{chain_grows}
 use Rattle.wy_prove_leaves.proofs.linked.chains.link.Goals as goal

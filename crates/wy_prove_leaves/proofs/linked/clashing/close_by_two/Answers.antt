@@ -1,7 +1,7 @@
 use Rattle.std.proofs.Common.{◌≡◌, ◌≤◌, ◌+◌, [], length, false, true, arith, rules}
 use Rattle.std.proofs.lemmas.List.{length-map}
 use Rattle.wy_term.specs.Nodes.{tree_at}
-use Rattle.wy_check_nodes.specs.Seen.{seen_literal}
+use Rattle.wy_prove_drafts.specs.wy_check_nodes.Seen.{seen_literal}
 use Rattle.wy_prove_drafts.specs.Draft.{seen_draft}
 use Rattle.wy_prove_leaves.specs.linked.Ended.{ClashesWithNone}
 use Rattle.wy_prove_leaves.proofs.linked_lemmas.ClashLemmas.{none_together}

@@ -1,7 +1,7 @@
 use Rattle.std.proofs.Common.{◌≡◌, ◌≤◌, ◌+◌, [], length, false, true, Some, arith, rules}
 use Rattle.std.proofs.lemmas.List.{length-map}
 use Rattle.wy_term.specs.Nodes.{tree_at}
-use Rattle.wy_check_nodes.specs.Seen.{seen_literal}
+use Rattle.wy_prove_drafts.specs.wy_check_nodes.Seen.{seen_literal}
 use Rattle.wy_cert.specs.Steps.{clash}
 use Rattle.wy_prove_drafts.specs.wy_check_spec.valid.Validity.{is_clash}
 use Rattle.wy_prove_drafts.specs.Draft.{seen_draft}

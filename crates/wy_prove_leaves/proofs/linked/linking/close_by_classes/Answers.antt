@@ -1,7 +1,7 @@
 use Rattle.std.proofs.Common.{ℕ, List, subst}
 use Rattle.std.proofs.lemmas.Result.{IfOk-weaker}
 use Rattle.wy_term.specs.Nodes.{tree_at}
-use Rattle.wy_check_nodes.specs.Seen.{seen_branch}
+use Rattle.wy_prove_drafts.specs.wy_check_nodes.Seen.{seen_branch}
 use Rattle.wy_search_spec.specs.Standing.{present}
 use Rattle.wy_search_spec.specs.Classes.{classes}
 use Rattle.wy_prove_drafts.proofs.wy_search_laws_proofs.chains_lemmas.ClassLemmas.{present_sorted}

@@ -4,8 +4,8 @@ use Rattle.wy_term.specs.Term.{Term}
 use Rattle.wy_term.specs.Nodes.{tree_at}
 use Rattle.wy_facts.specs.Seen.{Stays}
 use Rattle.wy_prove_drafts.specs.wy_check_spec.judge.Node.{Node}
-use Rattle.wy_check_nodes.specs.Seen.{seen_branch}
-use Rattle.wy_check_nodes.proofs.SumsBranchLemmas.{branch_stays, node_stays}
+use Rattle.wy_prove_drafts.specs.wy_check_nodes.Seen.{seen_branch}
+use Rattle.wy_prove_drafts.proofs.wy_check_nodes_proofs.SumsBranchLemmas.{branch_stays, node_stays}
 use Rattle.wy_prove_leaves.specs.stated_sums.Named.{holding, HasNumber}
 use Rattle.wy_prove_leaves.proofs.stated_sums_lemmas.StatingLemmas.{has_number}
 use Rattle.wy_prove_leaves.proofs.stated_sums.bounds.bound_number.Goals as goal

@@ -3,9 +3,9 @@ use Rattle.std.proofs.lemmas.List.{drop_more, drop_all}
 use Rattle.wy_term.specs.Nodes.{tree_at}
 use Rattle.wy_lin.specs.Seen.{linear_form}
 use Rattle.wy_facts.proofs.StepLemmas.{stays_on}
-use Rattle.wy_search_bounds.specs.declared.removal.Taking.{Taking}
-use Rattle.wy_search_bounds.specs.Seen.{seen_taking, seen_takings}
-use Rattle.wy_search_bounds.proofs.GatherLemmas.{terms_stay}
+use Rattle.wy_prove_drafts.specs.wy_search_bounds.declared.removal.Taking.{Taking}
+use Rattle.wy_prove_drafts.specs.wy_search_bounds.Seen.{seen_taking, seen_takings}
+use Rattle.wy_prove_drafts.proofs.wy_search_bounds_proofs.GatherLemmas.{terms_stay}
 use Rattle.wy_prove_drafts.specs.Draft.{seen_draft}
 use Rattle.wy_prove_drafts.specs.Progress.{Progress}
 use Rattle.wy_prove_drafts.proofs.DraftLemmas.{draft_stays, seen_draft_stays}

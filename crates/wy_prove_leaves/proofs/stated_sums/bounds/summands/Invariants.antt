@@ -2,9 +2,9 @@ use Rattle.std.proofs.Common.{◌≡◌, drop}
 use Rattle.wy_term.specs.Nodes.{tree_at}
 use Rattle.wy_facts.specs.Seen.{Stays}
 use Rattle.wy_prove_drafts.specs.wy_check_spec.judge.Node.{Node}
-use Rattle.wy_cong.specs.Seen.{terms_of}
+use Rattle.wy_prove_drafts.specs.wy_cong.Seen.{terms_of}
 use Rattle.wy_search_spec.specs.Standing.{present}
-use Rattle.wy_search_bounds.specs.Seen.{seen_takings}
+use Rattle.wy_prove_drafts.specs.wy_search_bounds.Seen.{seen_takings}
 use Rattle.wy_prove_drafts.specs.Draft.{seen_draft}
 use Rattle.wy_prove_leaves.specs.stated_sums.Replacing.{AreBounds}
 use Rattle.wy_prove_leaves.proofs.stated_sums_lemmas.TakenLemmas.{IsTaking}

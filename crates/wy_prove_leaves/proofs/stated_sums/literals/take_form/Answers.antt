@@ -6,12 +6,12 @@ use Rattle.wy_term.specs.Nodes.{tree_at}
 use Rattle.wy_lin.specs.Linear.{Linear}
 use Rattle.wy_lin.specs.Seen.{linear_form, seen_form}
 use Rattle.wy_prove_drafts.specs.wy_check_spec.judge.Node.{Literal}
-use Rattle.wy_check_nodes.specs.Seen.{seen_literal}
+use Rattle.wy_prove_drafts.specs.wy_check_nodes.Seen.{seen_literal}
 use Rattle.wy_prove_drafts.specs.wy_check_spec.valid.Literals.{literal_at}
 use Rattle.wy_search_spec.specs.Standing.{present}
 use Rattle.wy_search_spec.specs.Classes.{classes}
 use Rattle.wy_search_spec.specs.Bounds.{Replaced, numbered, takings, replaced, replaced_by}
-use Rattle.wy_search_bounds.specs.Seen.{seen_replaced, seen_takings}
+use Rattle.wy_prove_drafts.specs.wy_search_bounds.Seen.{seen_replaced, seen_takings}
 use Rattle.wy_prove_drafts.specs.Draft.{seen_draft}
 use Rattle.wy_prove_drafts.specs.Progress.{Progress}
 use Rattle.wy_prove_leaves.specs.stated_sums.Replacing.{IsReplaceable, Turns}

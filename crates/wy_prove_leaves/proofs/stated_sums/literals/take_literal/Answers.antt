@@ -6,10 +6,10 @@ use Rattle.wy_term.specs.Nodes.{tree_at}
 use Rattle.wy_lin.specs.Seen.{seen_form}
 use Rattle.wy_lin.specs.TermForm.{form_of_literal}
 use Rattle.wy_prove_drafts.specs.wy_check_spec.judge.Node.{Literal, Node, has_literal}
-use Rattle.wy_check_nodes.specs.Seen.{seen_branch, seen_literal}
+use Rattle.wy_prove_drafts.specs.wy_check_nodes.Seen.{seen_branch, seen_literal}
 use Rattle.wy_prove_drafts.specs.wy_check_spec.valid.Literals.{formula_of}
 use Rattle.wy_search_spec.specs.Bounds.{Replaced}
-use Rattle.wy_search_bounds.proofs.GatherLemmas.{form_behind}
+use Rattle.wy_prove_drafts.proofs.wy_search_bounds_proofs.GatherLemmas.{form_behind}
 use Rattle.wy_prove_drafts.specs.Draft.{seen_draft}
 use Rattle.wy_prove_drafts.specs.Progress.{Progress}
 use Rattle.wy_prove_drafts.proofs.DraftLemmas.{draft_stays, seen_draft_stays}

@@ -3,9 +3,9 @@ use Rattle.std.proofs.lemmas.List.{drop_all, length-map}
 use Rattle.std.proofs.lemmas.Result.{IfOk-weaker}
 use Rattle.wy_term.specs.Nodes.{tree_at}
 use Rattle.wy_prove_drafts.specs.wy_check_spec.judge.Node.{Literal, Node}
-use Rattle.wy_check_nodes.specs.Seen.{seen_branch, seen_literal}
+use Rattle.wy_prove_drafts.specs.wy_check_nodes.Seen.{seen_branch, seen_literal}
 use Rattle.wy_facts.proofs.StepLemmas.{stays_on}
-use Rattle.wy_check_nodes.proofs.SumsBranchLemmas.{branch_stays, node_stays}
+use Rattle.wy_prove_drafts.proofs.wy_check_nodes_proofs.SumsBranchLemmas.{branch_stays, node_stays}
 use Rattle.wy_prove_drafts.specs.Draft.{seen_draft}
 use Rattle.wy_prove_drafts.specs.Progress.{Progress}
 use Rattle.wy_prove_leaves.specs.declared.stated_sums.stated.Turn.{Turn}

@@ -4,7 +4,7 @@ use Rattle.std.specs.Prelude.{option_map, Vec}
 use Rattle.std.specs.declared.alloc.Global.{Global}
 use Rattle.std.proofs.lemmas.Result.{IfOk-weaker}
 use Rattle.wy_term.specs.Nodes.{tree_at}
-use Rattle.wy_search_bounds.specs.Seen.{seen_takings}
+use Rattle.wy_prove_drafts.specs.wy_search_bounds.Seen.{seen_takings}
 use Rattle.wy_prove_drafts.specs.Draft.{seen_draft}
 use Rattle.wy_prove_drafts.specs.Progress.{Progress}
 use Rattle.wy_prove_drafts.proofs.DraftLemmas.{draft_stays, seen_draft_stays}

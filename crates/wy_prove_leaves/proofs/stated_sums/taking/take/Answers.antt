@@ -1,8 +1,8 @@
 use Rattle.std.proofs.Common.{◌∙◌, ◌∷◌, ◌++◌, [], ℕ, Bool, true, Option, refl, sym, ap, subst}
 use Rattle.wy_term.specs.Nodes.{tree_at}
 use Rattle.wy_lin.specs.Seen.{linear_form}
-use Rattle.wy_search_bounds.specs.declared.replacing.Replaced.{Replaced}
-use Rattle.wy_search_bounds.specs.Seen.{seen_replaced}
+use Rattle.wy_prove_drafts.specs.wy_search_bounds.declared.replacing.Replaced.{Replaced}
+use Rattle.wy_prove_drafts.specs.wy_search_bounds.Seen.{seen_replaced}
 use Rattle.wy_prove_drafts.specs.Draft.{seen_draft}
 use Rattle.wy_prove_drafts.specs.Progress.{Progress}
 use Rattle.wy_prove_leaves.specs.stated_sums.Cuts.{Gives}

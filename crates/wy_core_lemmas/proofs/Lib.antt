@@ -1,0 +1,2 @@
+pub mod ExpressionKinds
+pub mod TypeKinds
