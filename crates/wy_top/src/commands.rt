@@ -76,6 +76,28 @@ pub fn run_words<R: Threads + Sync, F: Files, O: Sink, E: Sink>(
     // No file is changed but the one that `prove` saves.
     ensures kept { (other : List ℕ) → IsKeptBy (command_of (words_in words.now)) other → F.told files.new other ≡ F.told files.old other }
 {
+    called(rt, alloc, words, files, out, err)
+}
+
+// The call, with what it comes to.
+fn called<R: Threads + Sync, F: Files, O: Sink, E: Sink>(
+    rt: &R,
+    alloc: Global,
+    words: &[String],
+    files: &mut F,
+    out: &mut O,
+    err: &mut E,
+) -> u8
+    requires { AcceptedRunsGo }
+    ensures comes { Comes (words_in words.now)
+        (setting (F.told files.old) (F.load_faults files.old) (F.load_faults files.new) (F.misses files.old) (F.misses files.new))
+        (saving (F.told files.old (saved_name (command_of (words_in words.now)))) (F.told files.new (saved_name (command_of (words_in words.now)))) (F.save_faults files.old) (F.save_faults files.new))
+        result
+        (sinks (O.taken out.old) (O.taken out.new) (O.faults out.old) (O.faults out.new) (E.taken err.old) (E.taken err.new) (E.faults err.old) (E.faults err.new)) }
+
+    // No file is changed but the one that `prove` saves.
+    ensures kept { (other : List ℕ) → IsKeptBy (command_of (words_in words.now)) other → F.told files.new other ≡ F.told files.old other }
+{
     match read_words(alloc, words) {
         Ok(ordered) => {
             let workers = ordered.workers as u32;
