@@ -1,0 +1,220 @@
+//! Conditions that the search leaves open.
+use crate::choosing::{Fact, all_facts, chosen};
+use crate::clauses::clause_owed;
+use crate::hints::{HINTS, hint_for};
+use crate::kinds::{clause_words, owing_node, owing_span, put_kind};
+use crate::members::member_clause;
+use crate::naming::Naming;
+use crate::parts::{made_of, node_of};
+use crate::seen::Seen;
+use crate::term_text::{Words, put_formula};
+use crate::told::{hint, point_at};
+use crate::uses::{Uses, place_of};
+use std::alloc::Global;
+use wy_core::Core;
+use wy_explain_source::{Class, Finding, NoMemory, Page};
+use wy_search::{OpenLeaf, Why};
+use wy_term::{Cond, CondKind, Node, Terms};
+
+/// The conditions of a program, and what is looked at to tell of them.
+#[derive(Clone, Copy)]
+pub struct Owed<'a, 'b> {
+    pub seen: &'a Seen<'b>,
+    pub core: &'a Core,
+    pub terms: &'a Terms,
+    pub conds: &'a [Cond],
+}
+
+/// What is told of the condition with this number in the list, from 0, whatever its search ended in: what owes it, and which
+/// clause.
+pub fn finding_of(
+    alloc: Global,
+    owed: &Owed,
+    number: usize,
+    cond: &Cond,
+    ending: &'static str,
+) -> Result<Finding, NoMemory> {
+    let node = owing_node(owed.seen, cond.kind, cond.at);
+    let span = owing_span(owed.seen, node, cond.at);
+    let mut finding = Finding::new(alloc, cond.kind.word(), cond.at, span);
+    finding.condition = (number as u64).saturating_add(1);
+    finding.ending = ending;
+    put_kind(
+        &mut finding.message,
+        owed.seen,
+        cond.kind,
+        node,
+        owed.terms,
+        cond.goal,
+    )?;
+    let clause = clause_of(alloc, owed, number, cond)?;
+    match clause {
+        Some(at) => put_clause(alloc, owed.seen, &mut finding, cond.kind, at)?,
+        None => {}
+    }
+    put_hint(alloc, owed, &mut finding, cond, clause)?;
+    Ok(finding)
+}
+
+// The place of the clause that is owed: of a contract, a loop or a type.
+fn clause_of(
+    alloc: Global,
+    owed: &Owed,
+    number: usize,
+    cond: &Cond,
+) -> Result<Option<u32>, NoMemory> {
+    if cond.kind == CondKind::Member {
+        return Ok(member_clause(owed.seen, owed.conds, number));
+    }
+    clause_owed(alloc, owed.seen, owed.core, owed.conds, number)
+}
+
+fn put_clause(
+    alloc: Global,
+    seen: &Seen,
+    finding: &mut Finding,
+    kind: CondKind,
+    at: u32,
+) -> Result<(), NoMemory> {
+    let is_meant = |class: Class| class.is_expr();
+    let span = match seen.nodes.find(at, is_meant) {
+        Some(number) => match seen.nodes.get(number) {
+            Some(node) => node.span,
+            None => return Ok(()),
+        },
+        None => return Ok(()),
+    };
+    let words = if kind == CondKind::Member {
+        "The type has this clause:"
+    } else {
+        clause_words(kind)
+    };
+    point_at(alloc, finding, words, span)
+}
+
+fn put_hint(
+    alloc: Global,
+    owed: &Owed,
+    finding: &mut Finding,
+    cond: &Cond,
+    clause: Option<u32>,
+) -> Result<(), NoMemory> {
+    let decl = owed.seen.decl_at(cond.at).unwrap_or(0);
+    match hint_for(alloc, owed.seen, owed.terms, cond, clause, decl)? {
+        Some(number) => {
+            if number < HINTS.len() {
+                for line in HINTS[number].split('\n') {
+                    hint(alloc, finding, line)?;
+                }
+            }
+            Ok(())
+        }
+        None => Ok(()),
+    }
+}
+
+/// The same with its goal and the facts of the case that stays open.
+pub fn open_finding(
+    alloc: Global,
+    owed: &Owed,
+    number: usize,
+    cond: &Cond,
+    leaf: OpenLeaf,
+    all: bool,
+) -> Result<Finding, NoMemory> {
+    let ending = match leaf.why {
+        Why::Still => "open still",
+        Why::Crowded => "open crowded",
+        Why::Wide => "open wide",
+    };
+    let mut finding = finding_of(alloc, owed, number, cond, ending)?;
+    let OpenLeaf {
+        mut terms,
+        literals,
+        ..
+    } = leaf;
+    if cond.goal as usize >= owed.terms.len() {
+        return Ok(finding);
+    }
+    let goal = match terms.copy(owed.terms, cond.goal) {
+        Ok(goal) => goal,
+        Err(_) => return Err(NoMemory),
+    };
+    let (facts, hidden) = if all {
+        (all_facts(alloc, literals.as_slice())?, 0)
+    } else {
+        chosen(alloc, &terms, goal, literals.as_slice())?
+    };
+    finding.hidden = hidden;
+    let naming = naming_of(alloc, owed, &terms, goal, facts.as_slice(), cond)?;
+    let words = Words {
+        terms: &terms,
+        core: owed.core,
+        naming: &naming,
+    };
+    put_formula(&mut finding.goal, words, goal, true)?;
+    for fact in facts.as_slice() {
+        let mut page = Page::new(alloc);
+        put_formula(&mut page, words, fact.atom, fact.holds)?;
+        finding.facts.push(page)?;
+    }
+    put_names(alloc, &mut finding, naming)?;
+    Ok(finding)
+}
+
+// What the names in the goal and the facts are called.
+fn naming_of(
+    alloc: Global,
+    owed: &Owed,
+    terms: &Terms,
+    goal: u32,
+    facts: &[Fact],
+    cond: &Cond,
+) -> Result<Naming, NoMemory> {
+    let mut marks = made_of(alloc, terms, goal)?;
+    for fact in facts {
+        let own = made_of(alloc, terms, fact.atom)?;
+        for number in 0..marks.len() {
+            if own.get(number) == Some(&true) {
+                marks[number] = true;
+            }
+        }
+    }
+    let decl = owed.seen.decl_at(cond.at).unwrap_or(0);
+    let uses = Uses::of(alloc, owed.seen, owed.terms, owed.conds, decl)?;
+    let mut naming = Naming::new(alloc);
+    for number in 0..marks.len() {
+        if !marks[number] {
+            continue;
+        }
+        match node_of(terms, number as u32) {
+            Some(Node::ValName(word, count)) => {
+                let place = place_of(
+                    owed.seen,
+                    owed.terms,
+                    owed.conds,
+                    &uses,
+                    word.as_bytes(),
+                    *count,
+                    cond.at,
+                );
+                naming.call(alloc, owed.seen, decl, word.as_bytes(), *count, place)?;
+            }
+            Some(Node::IntName(word, count)) => naming.call_bound(alloc, word.as_bytes(), *count)?,
+            _ => {}
+        }
+    }
+    Ok(naming)
+}
+
+// A line for each name that isn't plain.
+fn put_names(alloc: Global, finding: &mut Finding, naming: Naming) -> Result<(), NoMemory> {
+    for called in naming.list.as_slice() {
+        if !called.note.is_empty() {
+            let mut page = Page::new(alloc);
+            page.bytes(called.note.as_slice())?;
+            finding.names.push(page)?;
+        }
+    }
+    Ok(())
+}
