@@ -23,14 +23,14 @@ const NO_MEMORY: u8 = 9;
 struct NoMemory;
 
 fn main(rt: HostRuntime) -> ExitCode {
-    match words(&rt) {
+    match given(&rt) {
         Ok(words) => ExitCode::from(status(&rt, &words)),
         Err(NoMemory) => ExitCode::from(NO_MEMORY),
     }
 }
 
 // The words behind the program's own name. Where one isn't text there are none, and so no command.
-fn words(rt: &HostRuntime) -> Result<Vec<String>, NoMemory> {
+fn given(rt: &HostRuntime) -> Result<Vec<String>, NoMemory> {
     let mut words = match env::args(rt) {
         Ok(words) => words,
         Err(e) if e.kind() == ErrorKind::OutOfMemory => return Err(NoMemory),

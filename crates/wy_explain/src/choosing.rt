@@ -38,7 +38,7 @@ pub fn chosen(
             distance,
         })?;
     }
-    bring_near(alloc, terms, &mut facts)?;
+    bring_near(alloc, terms, facts.as_mut_slice())?;
     let mut shown: Vec<Fact> = Vec::new(alloc);
     for distance in 0..4u8 {
         for fact in facts.as_slice() {
@@ -65,19 +65,25 @@ pub fn all_facts(alloc: Global, literals: &[(u32, bool)]) -> Result<Vec<Fact>, N
 }
 
 // Facts that share a name or a part with one at distance 2 at most are at distance 3.
-fn bring_near(alloc: Global, terms: &Terms, facts: &mut Vec<Fact>) -> Result<(), NoMemory> {
+fn bring_near(alloc: Global, terms: &Terms, facts: &mut [Fact]) -> Result<(), NoMemory> {
     let mut near: Vec<bool> = vec![in alloc; false; terms.len()]?;
-    for fact in facts.as_slice() {
+    for number in 0..facts.len() {
+        let fact = facts[number];
         if fact.distance <= 2 {
             let own = made_of(alloc, terms, fact.atom)?;
-            join(&mut near, own.as_slice());
+            join(near.as_mut_slice(), own.as_slice());
         }
     }
     for number in 0..facts.len() {
         let mut fact = facts[number];
         if fact.distance > 3 {
             let own = made_of(alloc, terms, fact.atom)?;
-            if share(terms, near.as_slice(), own.as_slice(), is_name) {
+            if share(
+                terms,
+                near.as_slice(),
+                own.as_slice(),
+                |node: &Node| is_name(node),
+            ) {
                 fact.distance = 3;
                 facts[number] = fact;
             }
@@ -86,11 +92,11 @@ fn bring_near(alloc: Global, terms: &Terms, facts: &mut Vec<Fact>) -> Result<(),
     Ok(())
 }
 
-fn join(into: &mut Vec<bool>, marks: &[bool]) {
+/// Puts marks on the terms that have one in either list.
+pub fn join(into: &mut [bool], marks: &[bool]) {
     for number in 0..into.len() {
-        match marks.get(number) {
-            Some(true) => into[number] = true,
-            _ => {}
+        if is_marked(marks, number) {
+            into[number] = true;
         }
     }
 }
@@ -100,7 +106,7 @@ fn share<F: Fn(&Node) -> bool>(terms: &Terms, first: &[bool], second: &[bool], i
     requires { F.IsAlwaysCallable is_meant }
 {
     for number in 0..first.len() {
-        let is_both = first[number] && second.get(number) == Some(&true);
+        let is_both = first[number] && is_marked(second, number);
         if is_both {
             match node_of(terms, number as u32) {
                 Some(node) => {
@@ -115,14 +121,22 @@ fn share<F: Fn(&Node) -> bool>(terms: &Terms, first: &[bool], second: &[bool], i
     false
 }
 
+// Whether the term with this number has a mark.
+fn is_marked(marks: &[bool], number: usize) -> bool {
+    match marks.get(number) {
+        Some(mark) => *mark,
+        None => false,
+    }
+}
+
 fn distance(terms: &Terms, aim: &[bool], own: &[bool], atom: u32) -> u8 {
-    if aim.get(atom as usize) == Some(&true) {
+    if is_marked(aim, atom as usize) {
         return 0;
     }
-    if share(terms, aim, own, is_compound) {
+    if share(terms, aim, own, |node: &Node| is_compound(node)) {
         return 1;
     }
-    if share(terms, aim, own, is_name) {
+    if share(terms, aim, own, |node: &Node| is_name(node)) {
         return 2;
     }
     4

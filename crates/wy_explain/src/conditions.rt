@@ -1,5 +1,5 @@
 //! Conditions that the search leaves open.
-use crate::choosing::{Fact, all_facts, chosen};
+use crate::choosing::{Fact, all_facts, chosen, join};
 use crate::clauses::clause_owed;
 use crate::hints::{HINTS, hint_for};
 use crate::kinds::{clause_words, owing_node, owing_span, put_kind};
@@ -174,11 +174,7 @@ fn naming_of(
     let mut marks = made_of(alloc, terms, goal)?;
     for fact in facts {
         let own = made_of(alloc, terms, fact.atom)?;
-        for number in 0..marks.len() {
-            if own.get(number) == Some(&true) {
-                marks[number] = true;
-            }
-        }
+        join(marks.as_mut_slice(), own.as_slice());
     }
     let decl = owed.seen.decl_at(cond.at).unwrap_or(0);
     let uses = Uses::of(alloc, owed.seen, owed.terms, owed.conds, decl)?;

@@ -60,7 +60,7 @@ pub fn put_faults(
     for _ in 0..MOST {
         let finding = finding_of(alloc, seen, fault)?;
         put_finding(page, &seen.source, &finding, all)?;
-        if fault.pass == Pass::Text || !blank(seen, &mut left, fault.at) {
+        if fault.pass == Pass::Text || !blank(seen, left.as_mut_slice(), fault.at) {
             break;
         }
         fault = match next_fault(alloc, left.as_slice())? {
@@ -100,7 +100,7 @@ fn finding_of(alloc: Global, seen: &Seen, fault: Fault) -> Result<Finding, NoMem
 }
 
 // Leaves the body out that holds the fault, by `fail` and spaces in its place; whether that is done. All places stay.
-fn blank(seen: &Seen, left: &mut Vec<u8>, at: u32) -> bool {
+fn blank(seen: &Seen, left: &mut [u8], at: u32) -> bool {
     let span = match body_around(seen, at) {
         Some(span) => span,
         None => return false,

@@ -1,5 +1,6 @@
 //! What could stand in the place of a token that can't.
 use crate::seen::Seen;
+use crate::text_faults::open_bracket;
 use std::alloc::Global;
 use wy_explain_source::{NoMemory, Page, Span};
 use wy_parse_front::{is_no_memory, offset, read};
@@ -62,8 +63,10 @@ pub fn could_stand(alloc: Global, seen: &Seen, at: u32) -> Result<Vec<bool>, NoM
     if before.len() > LARGEST {
         return Ok(choices);
     }
+    let is_open = open_bracket(seen, at).is_some();
     for tried in &TRIED {
-        choices.push(may_stand(alloc, before, tried.0)?)?;
+        let is_told = tried.0 != "\n" || !is_open;
+        choices.push(is_told && may_stand(alloc, before, tried.0)?)?;
     }
     Ok(choices)
 }
@@ -76,6 +79,9 @@ fn may_stand(alloc: Global, before: &[u8], token: &str) -> Result<bool, NoMemory
         Some(byte) => byte.is_ascii_whitespace(),
         None => true,
     };
+    if is_fresh && token == "\n" {
+        return Ok(false);
+    }
     if !is_fresh && token != "\n" {
         page.text(" ")?;
     }

@@ -12,13 +12,6 @@ pub fn put_kind(
     terms: &Terms,
     goal: u32,
 ) -> Result<(), NoMemory> {
-    let part = |role: Role| match node {
-        Some(node) => match seen.child(node, role) {
-            Some(part) => seen.text(part.span),
-            None => b"it".as_slice(),
-        },
-        None => b"it".as_slice(),
-    };
     let is_low = is_lower_bound(terms, goal);
     match kind {
         CondKind::Range => page.text(if is_low {
@@ -28,12 +21,12 @@ pub fn put_kind(
         }),
         CondKind::Divisor => {
             page.text("The divisor ")?;
-            page.code(part(Role::Right))?;
+            page.code(part_text(seen, node, Role::Right))?;
             page.text(" may be 0.")
         }
         CondKind::Index => {
             page.text("The index ")?;
-            page.code(part(Role::Right))?;
+            page.code(part_text(seen, node, Role::Right))?;
             page.text(if is_low {
                 " may be below 0."
             } else {
@@ -42,7 +35,7 @@ pub fn put_kind(
         }
         CondKind::Length => {
             page.text("The length ")?;
-            page.code(part(Role::Right))?;
+            page.code(part_text(seen, node, Role::Right))?;
             page.text(if is_low {
                 " may be below 0."
             } else {
@@ -60,6 +53,17 @@ pub fn put_kind(
         CondKind::Keep => page.text("Where a turn of this loop ends, an invariant of it may fail."),
         CondKind::Assert => page.text("What is asserted may fail."),
         CondKind::Fail => page.text("This `fail` may be reached."),
+    }
+}
+
+// The text of a part of a node.
+fn part_text<'a>(seen: &Seen<'a>, node: Option<usize>, role: Role) -> &'a [u8] {
+    match node {
+        Some(node) => match seen.child(node, role) {
+            Some(part) => seen.text(part.span),
+            None => b"it",
+        },
+        None => b"it",
     }
 }
 

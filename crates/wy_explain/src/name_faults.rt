@@ -105,7 +105,10 @@ fn near(
 fn put_scope(seen: &Seen, finding: &mut Finding, decl: usize) -> Result<(), NoMemory> {
     let mut told = 0usize;
     for node in seen.nodes.all() {
-        let is_near = node.class.declares() && !node.class.is_decl() && node.decl == decl;
+        let is_variable = node.class.declares()
+            && !node.class.is_decl()
+            && node.class != Class::Output;
+        let is_near = is_variable && node.decl == decl;
         if !is_near || told >= 8 {
             continue;
         }

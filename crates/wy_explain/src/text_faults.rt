@@ -329,8 +329,8 @@ fn mixed(alloc: Global, seen: &Seen, finding: &mut Finding) -> Result<(), NoMemo
     Ok(())
 }
 
-// The last bracket before the offset that isn't closed there.
-fn open_bracket(seen: &Seen, at: u32) -> Option<Span> {
+/// The last bracket before the offset that isn't closed there.
+pub fn open_bracket(seen: &Seen, at: u32) -> Option<Span> {
     let mut found = None;
     for mark in seen.marks.all() {
         if mark.span.from >= at {
