@@ -1,5 +1,5 @@
 //! Which facts of an open case are shown.
-use crate::parts::{is_compound, is_name, made_of, node_of};
+use crate::parts::{is_compound, is_name, made_of, node_at, node_of};
 use std::alloc::Global;
 use wy_explain_source::NoMemory;
 use wy_term::{Node, Terms};
@@ -108,7 +108,7 @@ fn share<F: Fn(&Node) -> bool>(terms: &Terms, first: &[bool], second: &[bool], i
     for number in 0..first.len() {
         let is_both = first[number] && is_marked(second, number);
         if is_both {
-            match node_of(terms, number as u32) {
+            match node_at(terms, number) {
                 Some(node) => {
                     if is_meant(node) {
                         return true;

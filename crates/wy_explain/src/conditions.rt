@@ -5,7 +5,7 @@ use crate::hints::{HINTS, hint_for};
 use crate::kinds::{clause_words, owing_node, owing_span, put_kind};
 use crate::members::member_clause;
 use crate::naming::Naming;
-use crate::parts::{made_of, node_of};
+use crate::parts::{made_of, node_at};
 use crate::seen::Seen;
 use crate::term_text::{Words, put_formula};
 use crate::told::{hint, point_at};
@@ -183,7 +183,7 @@ fn naming_of(
         if !marks[number] {
             continue;
         }
-        match node_of(terms, number as u32) {
+        match node_at(terms, number) {
             Some(Node::ValName(word, count)) => {
                 let place = place_of(
                     owed.seen,

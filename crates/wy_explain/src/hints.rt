@@ -1,5 +1,5 @@
 //! How programs are mended whose conditions the search leaves open: the table of docs/WRITING.md.
-use crate::parts::{made_of, node_of};
+use crate::parts::{made_of, node_at, node_of};
 use crate::seen::Seen;
 use std::alloc::Global;
 use wy_explain_source::{Class, NoMemory, Role};
@@ -121,7 +121,7 @@ fn traits_of(alloc: Global, terms: &Terms, cond: &Cond) -> Result<Traits, NoMemo
 fn note_all(terms: &Terms, marks: &[bool], traits: &mut Traits) {
     for number in 0..marks.len() {
         if marks[number] {
-            match node_of(terms, number as u32) {
+            match node_at(terms, number) {
                 Some(node) => note(terms, node, traits),
                 None => {}
             }

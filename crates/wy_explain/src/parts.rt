@@ -11,6 +11,14 @@ pub fn node_of(terms: &Terms, term: u32) -> Option<&Node> {
     None
 }
 
+/// The node with this number, if there is one.
+pub fn node_at(terms: &Terms, number: usize) -> Option<&Node> {
+    match u32::try_from(number) {
+        Ok(term) => node_of(terms, term),
+        Err(_) => None,
+    }
+}
+
 /// Puts the parts of a node behind others.
 pub fn put_parts(node: &Node, into: &mut Vec<u32>) -> Result<(), NoMemory> {
     match node {

@@ -1,5 +1,5 @@
 //! Where the names of conditions are first spoken of.
-use crate::parts::{node_of, put_parts};
+use crate::parts::{node_at, node_of, put_parts};
 use crate::seen::Seen;
 use std::alloc::Global;
 use wy_explain_source::{Class, NoMemory};
@@ -75,7 +75,7 @@ pub fn place_of(
     other: u32,
 ) -> u32 {
     for term in 0..terms.len() {
-        let is_it = match node_of(terms, term as u32) {
+        let is_it = match node_at(terms, term) {
             Some(Node::ValName(own, count)) => *count == number && own.as_bytes() == word,
             _ => false,
         };
