@@ -2,10 +2,10 @@
 use crate::parts::{is_compound, is_name, made_of, node_at, node_of};
 use std::alloc::Global;
 use wy_explain_source::NoMemory;
-use wy_term::{Node, Terms};
+use wy_term::{Kind, Node, Terms};
 
-/// How many facts are shown unless all are asked for.
-const MOST: usize = 12;
+/// How many facts are looked at for showing.
+const MOST: usize = 24;
 
 /// A literal of an open case, and how near it is to the goal: 0 a part of the goal itself, 1 with a part, a length, a product or
 /// the like of it, 2 with a name of it, 3 with something of those, 4 any other.
@@ -27,11 +27,12 @@ pub fn chosen(
     let aim = made_of(alloc, terms, goal)?;
     let mut facts: Vec<Fact> = Vec::new(alloc);
     for literal in literals {
-        if is_plain(terms, literal.0) {
-            continue;
-        }
         let own = made_of(alloc, terms, literal.0)?;
         let distance = distance(terms, aim.as_slice(), own.as_slice(), literal.0);
+        let is_plain = literal.1 && are_plain(terms, own.as_slice());
+        if (distance > 0 && is_plain) || is_implied(terms, *literal, literals) {
+            continue;
+        }
         facts.push(Fact {
             atom: literal.0,
             holds: literal.1,
@@ -40,9 +41,21 @@ pub fn chosen(
     }
     bring_near(alloc, terms, facts.as_mut_slice())?;
     let mut shown: Vec<Fact> = Vec::new(alloc);
-    for distance in 0..4u8 {
+    let last = if has_name(terms, aim.as_slice()) {
+        3
+    } else {
+        4
+    };
+    for distance in 0..5u8 {
         for fact in facts.as_slice() {
-            if fact.distance == distance && shown.len() < MOST {
+            let is_near = fact.distance == distance && distance <= last;
+            if is_near && shown.len() < MOST && denies(terms, goal, *fact) {
+                shown.push(*fact)?;
+            }
+        }
+        for fact in facts.as_slice() {
+            let is_near = fact.distance == distance && distance <= last;
+            if is_near && shown.len() < MOST && !denies(terms, goal, *fact) {
                 shown.push(*fact)?;
             }
         }
@@ -142,18 +155,112 @@ fn distance(terms: &Terms, aim: &[bool], own: &[bool], atom: u32) -> u8 {
     4
 }
 
-// Whether an atom says a kind, or compares with an end of `int`, a length with 0 or with the greatest one.
-fn is_plain(terms: &Terms, atom: u32) -> bool {
-    match node_of(terms, atom) {
-        Some(Node::Kind(value, _)) => !matches!(
-            node_of(terms, *value),
-            Some(Node::Get(_, _) | Node::Field(_, _))
-        ),
-        Some(Node::AtMost(s, t)) => {
-            is_end(terms, *s) || is_end(terms, *t) || (is_zero(terms, *s) && is_length(terms, *t))
-        }
-        _ => false,
+// Whether something has a name.
+fn has_name(terms: &Terms, marks: &[bool]) -> bool {
+    share(terms, marks, marks, |node: &Node| is_name(node))
+}
+
+// Whether a fact denies the goal or a part of it.
+fn denies(terms: &Terms, goal: u32, fact: Fact) -> bool {
+    match node_of(terms, goal) {
+        Some(Node::Not(inner)) => fact.holds && *inner == fact.atom,
+        Some(Node::And(parts) | Node::Or(parts)) => parts
+            .as_slice()
+            .iter()
+            .any(|part| denies_part(terms, *part, fact)),
+        _ => !fact.holds && fact.atom == goal,
     }
+}
+
+fn denies_part(terms: &Terms, part: u32, fact: Fact) -> bool {
+    match node_of(terms, part) {
+        Some(Node::Not(inner)) => fact.holds && *inner == fact.atom,
+        _ => !fact.holds && fact.atom == part,
+    }
+}
+
+/// Whether a formula says kinds and bounds of `int` alone.
+pub fn is_plain_whole(alloc: Global, terms: &Terms, formula: u32) -> Result<bool, NoMemory> {
+    let marks = made_of(alloc, terms, formula)?;
+    Ok(are_plain(terms, marks.as_slice()))
+}
+
+// Whether what is marked says kinds and ends of ranges alone: there is some, and nothing else is said.
+fn are_plain(terms: &Terms, marks: &[bool]) -> bool {
+    let mut is_some = false;
+    for number in 0..marks.len() {
+        if !marks[number] {
+            continue;
+        }
+        match node_at(terms, number) {
+            Some(Node::Kind(_, Kind::Null)) => return false,
+            Some(Node::Kind(_, _)) => is_some = true,
+            Some(Node::AtMost(s, t)) => {
+                if !is_end(terms, *s)
+                    && !is_end(terms, *t)
+                    && !(is_zero(terms, *s) && is_length(terms, *t))
+                {
+                    return false;
+                }
+                is_some = true;
+            }
+            Some(Node::Equal(_, _) | Node::In(_, _) | Node::Or(_) | Node::Not(_) | Node::Some(_)) =>
+                return false,
+            _ => {}
+        }
+    }
+    is_some
+}
+
+// The term without what makes a number of a datum, or a datum of a number.
+fn stripped(terms: &Terms, term: u32) -> u32 {
+    match node_of(terms, term) {
+        Some(Node::Num(inner) | Node::Int(inner)) => match node_of(terms, *inner) {
+            Some(Node::Num(other) | Node::Int(other)) => *other,
+            _ => *inner,
+        },
+        _ => term,
+    }
+}
+
+// What an atom compares: the sides, and whether it is an equation.
+fn compared(terms: &Terms, atom: u32) -> Option<(u32, u32, bool)> {
+    match node_of(terms, atom) {
+        Some(Node::AtMost(s, t)) => Some((stripped(terms, *s), stripped(terms, *t), false)),
+        Some(Node::Equal(s, t)) => Some((stripped(terms, *s), stripped(terms, *t), true)),
+        _ => None,
+    }
+}
+
+// Whether another literal of the case says more of the same two terms.
+fn is_implied(terms: &Terms, literal: (u32, bool), literals: &[(u32, bool)]) -> bool {
+    let (s, t, is_equation) = match compared(terms, literal.0) {
+        Some(sides) => sides,
+        None => return false,
+    };
+    if s == t {
+        return true;
+    }
+    literals.iter().any(|other| match compared(terms, other.0) {
+        Some(more) => says_more(
+            (s, t, is_equation, literal.1),
+            (more.0, more.1, more.2, other.1),
+        ),
+        None => false,
+    })
+}
+
+// Of two comparisons of two terms each: whether the second says more than the first.
+fn says_more(less: (u32, u32, bool, bool), more: (u32, u32, bool, bool)) -> bool {
+    let is_same = less.0 == more.0 && less.1 == more.1;
+    let is_turned = less.0 == more.1 && less.1 == more.0;
+    let is_at_most = !less.2 && less.3;
+    let is_different = less.2 && !less.3;
+    let is_equal = more.2 && more.3;
+    let is_below = !more.2 && !more.3;
+    (is_at_most && is_equal && (is_same || is_turned))
+        || (is_at_most && is_below && is_turned)
+        || (is_different && is_below && (is_same || is_turned))
 }
 
 fn is_end(terms: &Terms, term: u32) -> bool {

@@ -1,11 +1,11 @@
 //! Conditions that the search leaves open.
-use crate::choosing::{Fact, all_facts, chosen, join};
+use crate::choosing::{Fact, all_facts, chosen, is_plain_whole, join};
 use crate::clauses::clause_owed;
 use crate::hints::{HINTS, hint_for};
 use crate::kinds::{clause_words, owing_node, owing_span, put_kind};
 use crate::members::member_clause;
 use crate::naming::Naming;
-use crate::parts::{made_of, node_at};
+use crate::parts::{is_equation, made_of, node_at, node_of};
 use crate::seen::Seen;
 use crate::term_text::{Words, put_formula};
 use crate::told::{hint, point_at};
@@ -152,14 +152,83 @@ pub fn open_finding(
         core: owed.core,
         naming: &naming,
     };
-    put_formula(&mut finding.goal, words, goal, true)?;
+    put_goal(alloc, &mut finding.goal, words, goal, all)?;
     for fact in facts.as_slice() {
         let mut page = Page::new(alloc);
         put_formula(&mut page, words, fact.atom, fact.holds)?;
-        finding.facts.push(page)?;
+        let is_new = !finding
+            .facts
+            .as_slice()
+            .iter()
+            .any(|other| other.as_slice() == page.as_slice());
+        if all || (is_new && finding.facts.len() < MOST) {
+            finding.facts.push(page)?;
+        } else {
+            finding.hidden = finding.hidden.saturating_add(1);
+        }
     }
-    put_names(alloc, &mut finding, naming)?;
+    finding.names = naming.notes(alloc)?;
     Ok(finding)
+}
+
+/// How many facts are shown unless all are asked for.
+const MOST: usize = 12;
+
+// The goal; of several parts those that aren't kinds and bounds of `int`, unless all are asked for.
+fn put_goal(
+    alloc: Global,
+    page: &mut Page,
+    words: Words,
+    goal: u32,
+    all: bool,
+) -> Result<(), NoMemory> {
+    let parts = goal_parts(alloc, words.terms, goal)?;
+    if all || parts.len() <= 1 {
+        put_formula(page, words, goal, true)?;
+        if page.as_slice() == b"false".as_slice() {
+            page.text(" (so each case that comes here has to be excluded)")?;
+        }
+        return Ok(());
+    }
+    let mut front = "";
+    for part in parts.as_slice() {
+        if is_plain_whole(alloc, words.terms, *part)? {
+            continue;
+        }
+        page.text(front)?;
+        put_formula(page, words, *part, true)?;
+        front = " && ";
+    }
+    if page.is_empty() {
+        put_formula(page, words, goal, true)?;
+    }
+    Ok(())
+}
+
+// The parts between the outermost `&&` of a goal, those within first ones too.
+fn goal_parts(alloc: Global, terms: &Terms, goal: u32) -> Result<Vec<u32>, NoMemory> {
+    let mut parts: Vec<u32> = Vec::new(alloc);
+    let mut rest: Vec<u32> = Vec::new(alloc);
+    rest.push(goal)?;
+    for _ in 0..65_536 {
+        let next = match rest.pop() {
+            Some(next) => next,
+            None => break,
+        };
+        match node_of(terms, next) {
+            Some(Node::And(inner)) => {
+                if is_equation(terms, inner.as_slice()) {
+                    parts.push(next)?;
+                } else {
+                    let mut turned = Vec::from_slice(alloc, inner.as_slice())?;
+                    turned.reverse();
+                    rest.append(&mut turned)?;
+                }
+            }
+            _ => parts.push(next)?,
+        }
+    }
+    Ok(parts)
 }
 
 // What the names in the goal and the facts are called.
@@ -196,21 +265,30 @@ fn naming_of(
                 );
                 naming.call(alloc, owed.seen, decl, word.as_bytes(), *count, place)?;
             }
-            Some(Node::IntName(word, count)) => naming.call_bound(alloc, word.as_bytes(), *count)?,
+            Some(Node::IntName(word, count)) => {
+                let is_bound = is_bound(terms, marks.as_slice(), word.as_bytes(), *count);
+                naming.call_number(alloc, word.as_bytes(), *count, is_bound)?;
+            }
             _ => {}
         }
     }
     Ok(naming)
 }
 
-// A line for each name that isn't plain.
-fn put_names(alloc: Global, finding: &mut Finding, naming: Naming) -> Result<(), NoMemory> {
-    for called in naming.list.as_slice() {
-        if !called.note.is_empty() {
-            let mut page = Page::new(alloc);
-            page.bytes(called.note.as_slice())?;
-            finding.names.push(page)?;
+// Whether a quantifier among the marked terms binds the name.
+fn is_bound(terms: &Terms, marks: &[bool], word: &[u8], number: u128) -> bool {
+    for term in 0..marks.len() {
+        if !marks[term] {
+            continue;
+        }
+        match node_at(terms, term) {
+            Some(Node::All(quantifier) | Node::Some(quantifier)) => {
+                if quantifier.number == number && quantifier.word.as_bytes() == word {
+                    return true;
+                }
+            }
+            _ => {}
         }
     }
-    Ok(())
+    false
 }

@@ -1,4 +1,7 @@
 //! Explanations of sources.
+ghost use Rattle.std.specs.Prelude.{All};
+ghost use Rattle.wy_vc.specs.Told.{IsCond};
+
 use crate::conditions::{Owed, finding_of, open_finding};
 use crate::faults::{Fault, put_faults, unseen_limit};
 use crate::judged::judged;
@@ -142,7 +145,9 @@ fn explain_conditions(
     typed: &Typed,
     conds: Conds,
     asked: Asked,
-) -> Result<Explained, NoMemory> {
+) -> Result<Explained, NoMemory>
+    requires conds { All (IsCond conds.terms) conds.list.items }
+{
     let Conds { mut terms, list } = conds;
     let verdicts = judged(alloc, &mut terms, list.as_slice(), asked.budget)?;
     let (open, spent) = counted(verdicts.as_slice());

@@ -1,5 +1,5 @@
 //! How programs are mended whose conditions the search leaves open: the table of docs/WRITING.md.
-use crate::parts::{made_of, node_at, node_of};
+use crate::parts::{made_of, made_of_all, node_at, node_of};
 use crate::seen::Seen;
 use std::alloc::Global;
 use wy_explain_source::{Class, NoMemory, Role};
@@ -108,10 +108,8 @@ fn traits_of(alloc: Global, terms: &Terms, cond: &Cond) -> Result<Traits, NoMemo
     let marks = made_of(alloc, terms, cond.goal)?;
     note_all(terms, marks.as_slice(), &mut traits);
     let in_goal = traits;
-    for hyp in cond.hyps.as_slice() {
-        let marks = made_of(alloc, terms, *hyp)?;
-        note_all(terms, marks.as_slice(), &mut traits);
-    }
+    let marks = made_of_all(alloc, terms, cond.hyps.as_slice())?;
+    note_all(terms, marks.as_slice(), &mut traits);
     traits.product = in_goal.product;
     traits.quotient = in_goal.quotient;
     traits.remainder = in_goal.remainder;
@@ -148,8 +146,16 @@ fn note(terms: &Terms, node: &Node, traits: &mut Traits) {
                 traits.product = true;
             }
         }
-        Node::Div(_, _) => traits.quotient = true,
-        Node::Mod(_, _) => traits.remainder = true,
+        Node::Div(_, t) => {
+            if !is_number(terms, *t) {
+                traits.quotient = true;
+            }
+        }
+        Node::Mod(s, _) => {
+            if !is_number(terms, *s) {
+                traits.remainder = true;
+            }
+        }
         Node::Repeat(_, _) => traits.repeat = true,
         _ => {}
     }

@@ -1,4 +1,7 @@
 //! How the search ends with each condition.
+ghost use Rattle.std.specs.Prelude.{All};
+ghost use Rattle.wy_vc.specs.Told.{IsCond};
+
 use std::alloc::Global;
 use wy_explain_source::NoMemory;
 use wy_search::{Verdict, nothing_carried, search};
@@ -10,7 +13,9 @@ pub fn judged(
     terms: &mut Terms,
     conds: &[Cond],
     budget: u64,
-) -> Result<Vec<Verdict>, NoMemory> {
+) -> Result<Vec<Verdict>, NoMemory>
+    requires conds { All (IsCond terms.old) conds.now }
+{
     let mut carried = nothing_carried(alloc, terms.len());
     let mut verdicts = Vec::new(alloc);
     for i in 0..conds.len() {

@@ -48,7 +48,7 @@ pub fn put_kind(
         CondKind::Requires => page.text(
             "This call may not meet what is required of its arguments.",
         ),
-        CondKind::Ensures => page.text("Where the body ends here, an `ensures` may fail."),
+        CondKind::Ensures => page.text("Where the body ends here, what is promised may fail."),
         CondKind::Entry => page.text("Where this loop begins, an invariant of it may fail."),
         CondKind::Keep => page.text("Where a turn of this loop ends, an invariant of it may fail."),
         CondKind::Assert => page.text("What is asserted may fail."),

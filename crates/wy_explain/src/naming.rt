@@ -12,14 +12,16 @@ pub struct Called {
     word: Page,
     number: u128,
     is_bound: bool,
-    pub shown: Page,
-    pub note: Page,
+    shown: Page,
+    /// What the name stands for, before the line; no words for a name that needs none.
+    words: &'static str,
+    line: u64,
 }
 
 /// What names are called.
 #[derive(Drop)]
 pub struct Naming {
-    pub list: Vec<Called>,
+    list: Vec<Called>,
 }
 
 impl Naming {
@@ -50,16 +52,36 @@ impl Naming {
             .any(|called| called.shown.as_slice() == shown)
     }
 
-    /// The number of a quantifier, or one that stands for such: by its word, behind which its number stands where another
-    /// has the same word.
-    pub fn call_bound(&mut self, alloc: Global, word: &[u8], number: u128) -> Result<(), NoMemory> {
+    /// The number of a quantifier by its word; one that stands for such a number has a prime, and one more for each that is
+    /// called so already.
+    pub fn call_number(
+        &mut self,
+        alloc: Global,
+        word: &[u8],
+        number: u128,
+        is_bound: bool,
+    ) -> Result<(), NoMemory> {
         let mut shown = Page::new(alloc);
         shown.bytes(word)?;
-        if self.is_taken(word) {
-            shown.text("#")?;
-            shown.whole(i128::try_from(number).unwrap_or(0))?;
+        if is_bound {
+            return self.put(alloc, word, number, true, shown, "", 0);
         }
-        self.put(alloc, word, number, true, shown, Page::new(alloc))
+        shown.text("'")?;
+        for _ in 0..64 {
+            if !self.is_taken(shown.as_slice()) {
+                break;
+            }
+            shown.text("'")?;
+        }
+        self.put(
+            alloc,
+            word,
+            number,
+            true,
+            shown,
+            ": a number of the range of a quantifier",
+            0,
+        )
     }
 
     fn put(
@@ -69,7 +91,8 @@ impl Naming {
         number: u128,
         is_bound: bool,
         shown: Page,
-        note: Page,
+        words: &'static str,
+        line: u64,
     ) -> Result<(), NoMemory> {
         let mut own = Page::new(alloc);
         own.bytes(word)?;
@@ -78,7 +101,8 @@ impl Naming {
             number,
             is_bound,
             shown,
-            note,
+            words,
+            line,
         })?;
         Ok(())
     }
@@ -94,10 +118,9 @@ impl Naming {
         place: u32,
     ) -> Result<(), NoMemory> {
         let mut shown = Page::new(alloc);
-        let mut note = Page::new(alloc);
         shown.bytes(word)?;
         if is_entry(seen, decl, word, number) {
-            return self.put(alloc, word, number, false, shown, note);
+            return self.put(alloc, word, number, false, shown, "", 0);
         }
         match origin(seen, decl, word, place) {
             Some((node, words)) => {
@@ -108,18 +131,70 @@ impl Naming {
                     shown.text(".")?;
                     shown.whole(i128::try_from(number).unwrap_or(0))?;
                 }
-                note.bytes(shown.as_slice())?;
-                note.text(words)?;
-                note.number(line)?;
-                note.text(".")?;
+                self.put(alloc, word, number, false, shown, words, line)
             }
             None => {
                 shown.text(".")?;
                 shown.whole(i128::try_from(number).unwrap_or(0))?;
+                self.put(alloc, word, number, false, shown, "", 0)
             }
         }
-        self.put(alloc, word, number, false, shown, note)
     }
+
+    /// A sentence for each kind of value that names stand for: the names, what they are, and the line.
+    pub fn notes(&self, alloc: Global) -> Result<Vec<Page>, NoMemory> {
+        let mut notes: Vec<Page> = Vec::new(alloc);
+        let list = self.list.as_slice();
+        for number in 0..list.len() {
+            let called = &list[number];
+            if called.words == "" || is_told(list, number) {
+                continue;
+            }
+            let mut page = Page::new(alloc);
+            put_alike(&mut page, list, called)?;
+            page.text(called.words)?;
+            if called.line > 0 {
+                page.number(called.line)?;
+            }
+            page.text(".")?;
+            notes.push(page)?;
+        }
+        Ok(notes)
+    }
+}
+
+// Whether two names stand for values of one kind and line.
+fn are_alike(first: &Called, second: &Called) -> bool {
+    first.words == second.words && first.line == second.line
+}
+
+// Whether an earlier name stands for a value of the same kind and line.
+fn is_told(list: &[Called], number: usize) -> bool {
+    let own = match list.get(number) {
+        Some(own) => own,
+        None => return false,
+    };
+    let mut passed = 0usize;
+    for called in list {
+        if passed < number && are_alike(called, own) {
+            return true;
+        }
+        passed = passed.saturating_add(1);
+    }
+    false
+}
+
+// The names that stand for values of the same kind and line.
+fn put_alike(page: &mut Page, list: &[Called], called: &Called) -> Result<(), NoMemory> {
+    let mut front = "";
+    for other in list {
+        if are_alike(other, called) {
+            page.text(front)?;
+            page.bytes(other.shown.as_slice())?;
+            front = ", ";
+        }
+    }
+    Ok(())
 }
 
 // Whether the name is that of a parameter at entry: these come first, one behind the other.
@@ -168,17 +243,14 @@ fn value_given(seen: &Seen, number: usize, node: Node, word: &[u8]) -> Option<(u
             {
                 return Some((
                     node.at,
-                    " is its value at the test of the loop, in the turn that is looked at or behind the last one, line ",
+                    ": the value at the test of a loop, in the turn that is looked at or behind the last one, line ",
                 ));
             }
             None
         }
         Class::If => {
             if is_assigned_in(seen, number, word) {
-                return Some((
-                    seen.end_of(number),
-                    " is its value behind the `if` of line ",
-                ));
+                return Some((seen.end_of(number), ": the value behind the `if` of line "));
             }
             None
         }
@@ -186,26 +258,26 @@ fn value_given(seen: &Seen, number: usize, node: Node, word: &[u8]) -> Option<(u
             if is_assigned_in(seen, number, word) {
                 return Some((
                     seen.end_of(number),
-                    " is its value behind the `switch` of line ",
+                    ": the value behind the `switch` of line ",
                 ));
             }
             None
         }
         Class::Declare => {
             if seen.text(node.name) == word {
-                return Some((node.at, " is the value that it gets in line "));
+                return Some((node.at, ": the value that is given in line "));
             }
             None
         }
         Class::Assign => {
             if seen.text(node.name) == word {
-                return Some((node.span.to, " is the value that it gets in line "));
+                return Some((node.span.to, ": the value that is given in line "));
             }
             None
         }
         Class::Call | Class::CallStmt => {
             if seen.text(node.name) == word {
-                return Some((node.at, " is the result of the call in line "));
+                return Some((node.at, ": the result of the call in line "));
             }
             None
         }

@@ -70,9 +70,13 @@ pub fn put_parts(node: &Node, into: &mut Vec<u32>) -> Result<(), NoMemory> {
 
 /// The term and all that it is made of, each once: a mark for each term of the list.
 pub fn made_of(alloc: Global, terms: &Terms, term: u32) -> Result<Vec<bool>, NoMemory> {
+    made_of_all(alloc, terms, &[term])
+}
+
+/// The same of several terms.
+pub fn made_of_all(alloc: Global, terms: &Terms, roots: &[u32]) -> Result<Vec<bool>, NoMemory> {
     let mut marks: Vec<bool> = vec![in alloc; false; terms.len()]?;
-    let mut rest: Vec<u32> = Vec::new(alloc);
-    rest.push(term)?;
+    let mut rest: Vec<u32> = Vec::from_slice(alloc, roots)?;
     for _ in 0..u64::MAX {
         let next = match rest.pop() {
             Some(next) => next,
@@ -89,6 +93,44 @@ pub fn made_of(alloc: Global, terms: &Terms, term: u32) -> Result<Vec<bool>, NoM
         }
     }
     Ok(marks)
+}
+
+/// Whether the parts are `s <= t` and `t <= s`.
+pub fn is_equation(terms: &Terms, parts: &[u32]) -> bool {
+    let [first, second] = parts else {
+        return false;
+    };
+    match (node_of(terms, *first), node_of(terms, *second)) {
+        (Some(Node::AtMost(s, t)), Some(Node::AtMost(u, v))) => *s == *v && *t == *u,
+        _ => false,
+    }
+}
+
+/// Whether the parts are `s < t` and `t < s`.
+pub fn is_difference(terms: &Terms, parts: &[u32]) -> bool {
+    let [first, second] = parts else {
+        return false;
+    };
+    match (node_of(terms, *first), node_of(terms, *second)) {
+        (Some(Node::Not(one)), Some(Node::Not(other))) => is_equation(terms, &[*one, *other]),
+        _ => false,
+    }
+}
+
+/// The sides of the first part of an equation or a difference.
+pub fn sides(terms: &Terms, parts: &[u32]) -> Option<(u32, u32)> {
+    let first = match parts.first() {
+        Some(first) => *first,
+        None => return None,
+    };
+    match node_of(terms, first) {
+        Some(Node::AtMost(s, t)) => Some((*s, *t)),
+        Some(Node::Not(inner)) => match node_of(terms, *inner) {
+            Some(Node::AtMost(s, t)) => Some((*t, *s)),
+            _ => None,
+        },
+        _ => None,
+    }
 }
 
 /// Whether it is a name, of a number or of a datum.

@@ -2,7 +2,7 @@
 //!
 //! A list of pieces is kept that are still to be written, so terms nest to any depth.
 use crate::naming::Naming;
-use crate::parts::node_of;
+use crate::parts::{is_difference, is_equation, node_of, sides};
 use crate::type_text::alias_name;
 use std::alloc::Global;
 use wy_core::Core;
@@ -293,8 +293,8 @@ fn formula_pieces(
             pieces.push(Piece::Formula(*inner, !holds, around))?;
             Ok(pieces)
         }
-        Node::And(parts) => joined(alloc, parts.as_slice(), holds, holds, around),
-        Node::Or(parts) => joined(alloc, parts.as_slice(), holds, !holds, around),
+        Node::And(parts) => all_of(alloc, words, parts.as_slice(), holds, around),
+        Node::Or(parts) => any_of(alloc, words, parts.as_slice(), holds, around),
         Node::All(quantifier) => quantified(alloc, "all {", quantifier, holds),
         Node::Some(quantifier) => quantified(alloc, "some {", quantifier, holds),
         _ => {
@@ -305,6 +305,54 @@ fn formula_pieces(
             pieces.push(Piece::Term(formula, TIGHT))?;
             Ok(pieces)
         }
+    }
+}
+
+// Formulas that hold together; `s <= t && t <= s` is `s == t`.
+fn all_of(
+    alloc: Global,
+    words: Words,
+    parts: &[u32],
+    holds: bool,
+    around: u8,
+) -> Result<Vec<Piece>, NoMemory> {
+    if is_equation(words.terms, parts) {
+        return equation(alloc, words, parts, holds, around);
+    }
+    joined(alloc, parts, holds, holds, around)
+}
+
+// Formulas of which one holds; `s < t || t < s` is `s != t`.
+fn any_of(
+    alloc: Global,
+    words: Words,
+    parts: &[u32],
+    holds: bool,
+    around: u8,
+) -> Result<Vec<Piece>, NoMemory> {
+    if is_difference(words.terms, parts) {
+        return equation(alloc, words, parts, !holds, around);
+    }
+    joined(alloc, parts, holds, !holds, around)
+}
+
+fn equation(
+    alloc: Global,
+    words: Words,
+    parts: &[u32],
+    is_equal: bool,
+    around: u8,
+) -> Result<Vec<Piece>, NoMemory> {
+    match sides(words.terms, parts) {
+        Some((s, t)) => operation(
+            alloc,
+            if is_equal { " == " } else { " != " },
+            (s, SUM),
+            (t, SUM),
+            LOGIC,
+            around,
+        ),
+        None => Ok(Vec::new(alloc)),
     }
 }
 

@@ -22,8 +22,13 @@ impl Uses {
     ) -> Result<Uses, NoMemory> {
         let mut first: Vec<usize> = vec![in alloc; usize::MAX; terms.len()]?;
         let mut number = 0usize;
+        let start = match seen.nodes.get(decl) {
+            Some(node) => node.at,
+            None => 0,
+        };
+        let end = seen.decl_end(decl);
         for cond in conds {
-            if seen.decl_at(cond.at) == Some(decl) {
+            if start <= cond.at && cond.at < end {
                 for hyp in cond.hyps.as_slice() {
                     note(alloc, terms, &mut first, *hyp, number)?;
                 }

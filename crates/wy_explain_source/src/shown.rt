@@ -26,12 +26,7 @@ pub fn put_finding(
     for name in finding.names.as_slice() {
         put_wrapped(page, "", name.as_slice())?;
     }
-    let mut front = "hint: ";
-    for line in finding.hint.as_slice() {
-        put_line(page, front, line.as_slice(), all)?;
-        front = "      ";
-    }
-    Ok(())
+    put_hint(page, finding)
 }
 
 // `FILE:L:C: NotSubtype`, or `FILE:L:C: condition 3 ensures: open still`
@@ -55,6 +50,20 @@ fn put_head(page: &mut Page, source: &Source, finding: &Finding) -> Result<(), N
     page.text("\n")
 }
 
+// The lines of the hint, one behind the other.
+fn put_hint(page: &mut Page, finding: &Finding) -> Result<(), NoMemory> {
+    if finding.hint.is_empty() {
+        return Ok(());
+    }
+    let mut whole = Page::new(page.alloc());
+    whole.text("hint:")?;
+    for line in finding.hint.as_slice() {
+        whole.text(" ")?;
+        whole.bytes(line.as_slice())?;
+    }
+    put_wrapped(page, "", whole.as_slice())
+}
+
 fn put_label(page: &mut Page, source: &Source, label: &Label) -> Result<(), NoMemory> {
     put_wrapped(page, "", label.text.as_slice())?;
     match label.span {
@@ -69,7 +78,7 @@ fn put_goal(page: &mut Page, finding: &Finding, all: bool) -> Result<(), NoMemor
     }
     put_line(page, "to show: ", finding.goal.as_slice(), all)?;
     if finding.facts.is_empty() {
-        return Ok(());
+        return page.text("Nothing that is known speaks of it.\n");
     }
     page.text("It isn't excluded that\n")?;
     for fact in finding.facts.as_slice() {

@@ -1,0 +1,2 @@
+-- conditions as a search takes them
+mod SearchLemmas
