@@ -3,7 +3,7 @@ use crate::choosing::{Fact, all_facts, chosen, is_plain_whole, join};
 use crate::clauses::clause_owed;
 use crate::hints::{HINTS, hint_for};
 use crate::kinds::{clause_words, owing_node, owing_span, put_kind};
-use crate::members::member_clause;
+use crate::members::member_type;
 use crate::naming::Naming;
 use crate::parts::{is_equation, made_of, node_at, node_of};
 use crate::seen::Seen;
@@ -47,6 +47,7 @@ pub fn finding_of(
         owed.terms,
         cond.goal,
     )?;
+    put_type_asked(&mut finding.message, owed, number, cond)?;
     let clause = clause_of(alloc, owed, number, cond)?;
     match clause {
         Some(at) => put_clause(alloc, owed.seen, &mut finding, cond.kind, at)?,
@@ -54,6 +55,26 @@ pub fn finding_of(
     }
     put_hint(alloc, owed, &mut finding, cond, clause)?;
     Ok(finding)
+}
+
+// The type that a value has to be of, where that is plain.
+fn put_type_asked(
+    page: &mut Page,
+    owed: &Owed,
+    number: usize,
+    cond: &Cond,
+) -> Result<(), NoMemory> {
+    if cond.kind != CondKind::Member {
+        return Ok(());
+    }
+    match member_type(owed.seen, owed.conds, number) {
+        Some((ty, _)) => {
+            page.text(" That type is ")?;
+            page.code(owed.seen.text(ty.span))?;
+            page.text(".")
+        }
+        None => Ok(()),
+    }
 }
 
 // The place of the clause that is owed: of a contract, a loop or a type.
@@ -64,7 +85,10 @@ fn clause_of(
     cond: &Cond,
 ) -> Result<Option<u32>, NoMemory> {
     if cond.kind == CondKind::Member {
-        return Ok(member_clause(owed.seen, owed.conds, number));
+        return match member_type(owed.seen, owed.conds, number) {
+            Some((_, at)) => Ok(Some(at)),
+            None => Ok(None),
+        };
     }
     clause_owed(alloc, owed.seen, owed.core, owed.conds, number)
 }
@@ -85,7 +109,7 @@ fn put_clause(
         None => return Ok(()),
     };
     let words = if kind == CondKind::Member {
-        "The type has this clause:"
+        "Its first clause:"
     } else {
         clause_words(kind)
     };

@@ -43,7 +43,7 @@ pub fn put_kind(
             })
         }
         CondKind::Member => page.text(
-            "The value may not meet a clause of the type that it has to be of.",
+            "The value may not meet the clauses of the type that it has to be of.",
         ),
         CondKind::Requires => page.text(
             "This call may not meet what is required of its arguments.",

@@ -3,8 +3,8 @@ use crate::seen::Seen;
 use wy_explain_source::{Class, Node, Role};
 use wy_term::{Cond, CondKind};
 
-/// The place of the first clause of the type that a member condition asks for; nothing where that isn't plain.
-pub fn member_clause(seen: &Seen, conds: &[Cond], number: usize) -> Option<u32> {
+/// The type that a member condition asks for, as it is written, with the place of its first clause; nothing where that isn't plain.
+pub fn member_type(seen: &Seen, conds: &[Cond], number: usize) -> Option<(Node, u32)> {
     let cond = conds.get(number)?;
     let is_meant = |class: Class| class.is_stmt() || class == Class::Call;
     let stmt = seen.nodes.find(cond.at, is_meant)?;
@@ -39,7 +39,7 @@ fn earlier(conds: &[Cond], number: usize) -> usize {
 }
 
 // The first clause of the type of the parameter that comes with this number among those with clauses.
-fn argument_clause(seen: &Seen, callee: usize, place: usize) -> Option<u32> {
+fn argument_clause(seen: &Seen, callee: usize, place: usize) -> Option<(Node, u32)> {
     let mut passed = 0usize;
     let mut number = 0usize;
     for node in seen.nodes.all() {
@@ -61,7 +61,7 @@ fn argument_clause(seen: &Seen, callee: usize, place: usize) -> Option<u32> {
 }
 
 // The first clause of a type that is a name with clauses, or of the first such name that is mentioned in it.
-fn clause_of(seen: &Seen, ty: Node) -> Option<u32> {
+fn clause_of(seen: &Seen, ty: Node) -> Option<(Node, u32)> {
     for node in seen.nodes.all() {
         let is_inside = node.class == Class::NamedType
             && node.at >= ty.span.from
@@ -69,7 +69,7 @@ fn clause_of(seen: &Seen, ty: Node) -> Option<u32> {
         if is_inside {
             match seen.decl_named(seen.text(node.name)) {
                 Some(alias) => match seen.child(alias, Role::Where) {
-                    Some(clause) => return Some(clause.at),
+                    Some(clause) => return Some((ty, clause.at)),
                     None => {}
                 },
                 None => {}

@@ -112,11 +112,9 @@ fn put_scope(seen: &Seen, finding: &mut Finding, decl: usize) -> Result<(), NoMe
         if !is_near || told >= 8 {
             continue;
         }
-        finding.message.text(if told == 0 {
-            " The variables of this declaration are "
-        } else {
-            ", "
-        })?;
+        finding
+            .message
+            .text(if told == 0 { " Known here: " } else { ", " })?;
         finding.message.code(seen.text(node.name))?;
         told = told.saturating_add(1);
     }
@@ -219,11 +217,11 @@ fn bare_recursion(alloc: Global, seen: &Seen, finding: &mut Finding) -> Result<(
 }
 
 fn property_loop(alloc: Global, seen: &Seen, finding: &mut Finding) -> Result<(), NoMemory> {
-    finding.message.text("The property ")?;
+    finding.message.text("A use of a property stands for its clauses, and those of ")?;
     finding.message.code(seen.text(finding.span))?;
-    finding.message.text(
-        " is put in for its uses, and here it is used in what is put in for itself, so that comes to no end.",
-    )?;
+    finding
+        .message
+        .text(" lead to the same property again, without end.")?;
     hint(
         alloc,
         finding,

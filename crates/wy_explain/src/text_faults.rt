@@ -143,9 +143,9 @@ fn bad_indent(alloc: Global, seen: &Seen, finding: &mut Finding) -> Result<(), N
     };
     finding.message.text("This line is indented by ")?;
     put_indent(&mut finding.message, seen.text(own))?;
-    finding.message.text(
-        ", and no block is open that is. The blocks that are open before it are indented by ",
-    )?;
+    finding
+        .message
+        .text(", and no open block has that indentation: they have ")?;
     let open = open_indents(alloc, seen, own.from)?;
     put_indent(&mut finding.message, b"")?;
     for indent in open.as_slice() {
@@ -153,7 +153,7 @@ fn bad_indent(alloc: Global, seen: &Seen, finding: &mut Finding) -> Result<(), N
         put_indent(&mut finding.message, seen.text(*indent))?;
     }
     finding.message.text(
-        ". A line may be deeper only behind a line that ends with `:`, and then begins with the same spaces and tabs.",
+        ". A deeper block begins behind a line that ends with `:`, with the spaces and tabs of the block around it first.",
     )
 }
 

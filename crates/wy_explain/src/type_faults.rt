@@ -505,7 +505,13 @@ fn not_part(
         Some(found) => found,
         None => return finding.message.text(needed),
     };
-    finding.span = whole;
+    finding.span = match seen.nodes.get(number) {
+        Some(node) => Span {
+            from: whole.from.min(node.span.from),
+            to: node.span.to.max(whole.to),
+        },
+        None => whole,
+    };
     let at = point_of(alloc, seen, number)?;
     let ty = type_of(alloc, seen, &at, whole)?;
     put_is(finding, seen, whole, &ty)?;
