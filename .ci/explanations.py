@@ -28,10 +28,10 @@ def place(text):
     return found.groups() if found else None
 
 
-def agrees(programs, name, folder):
+def agrees(programs, name, folder, *options):
     """The explanation, where its status and its first place are those of `check`; else nothing."""
-    status, out, err = called(programs[0], ["explain", name], folder)
-    wanted, _, line = called(programs[1], ["check", name, "none"], folder)
+    status, out, err = called(programs[0], ["explain", name, *options], folder)
+    wanted, _, line = called(programs[1], ["check", name, "none", *options], folder)
     same = status == wanted and (status == 0 or place(out) == place(line))
     return out if same and err == "" else None
 
@@ -47,7 +47,7 @@ def as_written(programs):
 def short(programs):
     """Each example that isn't shown is explained in few lines."""
     for path in sorted(glob.glob(f"{HERE}/examples/unshown/*.wy")):
-        out = agrees(programs, os.path.basename(path), os.path.dirname(path))
+        out = agrees(programs, os.path.basename(path), os.path.dirname(path), "--budget", "1000")
         lines = (out or "").splitlines()
         yield os.path.basename(path), out is not None and len(lines) <= 40 and all(len(it) <= 100 for it in lines)
 
@@ -72,7 +72,7 @@ def changed(programs):
             source = mutant(sources, chance)
             with open(f"{room}/{number}.wy", "wb") as file:
                 file.write(source)
-            yield f"the mutant {number}", agrees(programs, f"{number}.wy", room) is not None
+            yield f"the mutant {number}", agrees(programs, f"{number}.wy", room, "--budget", "200") is not None
 
 
 def words(programs):
