@@ -3,11 +3,11 @@
 //! The program that is asked has every declaration without its body and clauses, and behind them the one that holds the point: up
 //! to the point as it is written, and then statements that ask, the last of which is `assert (E) is any`. Its flow types then
 //! have the type of E at that point.
+use crate::passes::{Refused, typed_program};
 use crate::seen::Seen;
 use crate::type_text::put_ty;
 use std::alloc::Global;
 use wy_explain_source::{Class, NoMemory, Node, Page, Role, Span};
-use wy_top_source::read_program;
 
 /// Where a question is asked.
 #[derive(Clone, Copy, Debug, PartialEq, Eq)]
@@ -47,34 +47,18 @@ pub fn type_at(
 /// Whether the checker takes a program with these statements at the spot.
 pub fn is_taken(alloc: Global, seen: &Seen, spot: Spot, lines: &[Page]) -> Result<bool, NoMemory> {
     let asked = asked(alloc, seen, spot, lines, b"skip")?;
-    let bytes = asked.page.as_slice();
-    if bytes.len() >= u32::MAX as usize {
-        return Ok(false);
-    }
-    match read_program(alloc, bytes) {
+    match typed_program(alloc, asked.page.as_slice()) {
         Ok(_) => Ok(true),
-        Err(refusal) => {
-            if wy_top_source::is_no_memory(refusal) {
-                return Err(NoMemory);
-            }
-            Ok(false)
-        }
+        Err(Refused::Fault(_)) => Ok(false),
+        Err(Refused::NoMemory) => Err(NoMemory),
     }
 }
 
 fn answer(alloc: Global, asked: &Asked) -> Result<Option<Page>, NoMemory> {
-    let bytes = asked.page.as_slice();
-    if bytes.len() >= u32::MAX as usize {
-        return Ok(None);
-    }
-    let typed = match read_program(alloc, bytes) {
+    let typed = match typed_program(alloc, asked.page.as_slice()) {
         Ok(typed) => typed,
-        Err(refusal) => {
-            if wy_top_source::is_no_memory(refusal) {
-                return Err(NoMemory);
-            }
-            return Ok(None);
-        }
+        Err(Refused::Fault(_)) => return Ok(None),
+        Err(Refused::NoMemory) => return Err(NoMemory),
     };
     let behind = asked.behind.saturating_add(2);
     if behind > typed.len() {

@@ -3,18 +3,18 @@ ghost use Rattle.std.specs.Prelude.{All};
 ghost use Rattle.wy_vc.specs.Told.{IsCond};
 
 use crate::conditions::{Owed, finding_of, open_finding};
-use crate::faults::{Fault, put_faults, unseen_limit};
+use crate::faults::{put_faults, unseen_limit};
 use crate::judged::judged;
+use crate::passes::{Refused, typed_program};
 use crate::seen::Seen;
 use crate::spent::put_spent;
 use std::alloc::Global;
 use wy_ast::Program;
 use wy_explain_source::{Finding, NoMemory, Page, Source, put_finding};
-use wy_flow_spec::typing::Typed;
+use wy_flow::Typed;
 use wy_parse_front::read;
 use wy_search::Verdict;
 use wy_term::{Cond, Conds};
-use wy_top_source::read_program;
 use wy_vc::conditions;
 
 /// What is asked for.
@@ -61,19 +61,17 @@ pub fn explain(
         Some(at) => return imported(alloc, &seen, at),
         None => {}
     }
-    match read_program(alloc, bytes) {
-        Err(refusal) => {
-            if wy_top_source::is_no_memory(refusal) {
-                return Err(NoMemory);
-            }
+    match typed_program(alloc, bytes) {
+        Ok(typed) => explain_typed(alloc, &seen, &typed, asked),
+        Err(Refused::NoMemory) => Err(NoMemory),
+        Err(Refused::Fault(fault)) => {
             let mut page = Page::new(alloc);
-            put_faults(alloc, &mut page, &seen, Fault::of(refusal), asked.all)?;
+            put_faults(alloc, &mut page, &seen, fault, asked.all)?;
             Ok(Explained {
                 status: 1,
                 text: page.into_vec(),
             })
         }
-        Ok(typed) => explain_typed(alloc, &seen, &typed, asked),
     }
 }
 

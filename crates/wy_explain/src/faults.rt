@@ -1,12 +1,12 @@
 //! Faults of a source, pass by pass.
 use crate::name_faults::name_fault;
+use crate::passes::{Refused, typed_program};
 use crate::path_faults::path_fault;
 use crate::seen::Seen;
 use crate::text_faults::text_fault;
 use crate::type_faults::type_fault;
 use std::alloc::Global;
 use wy_explain_source::{Finding, NoMemory, Page, Role, Span, put_finding};
-use wy_top_source::{Refusal, offset, read_program, word};
 use wy_vc::VcFault;
 
 /// The pass that has a fault.
@@ -24,23 +24,6 @@ pub struct Fault {
     pub pass: Pass,
     pub word: &'static str,
     pub at: u32,
-}
-
-impl Fault {
-    /// The fault for which a source is refused.
-    pub fn of(refusal: Refusal) -> Fault {
-        let pass = match refusal {
-            Refusal::Text(_) => Pass::Text,
-            Refusal::Name(_) => Pass::Names,
-            Refusal::Flow(_) => Pass::Types,
-            Refusal::Assign(_) => Pass::Paths,
-        };
-        Fault {
-            pass,
-            word: word(refusal),
-            at: offset(refusal),
-        }
-    }
 }
 
 /// How many faults are told.
@@ -76,17 +59,10 @@ pub fn put_faults(
 
 // The fault of what is left.
 fn next_fault(alloc: Global, left: &[u8]) -> Result<Option<Fault>, NoMemory> {
-    if left.len() >= u32::MAX as usize {
-        return Ok(None);
-    }
-    match read_program(alloc, left) {
+    match typed_program(alloc, left) {
         Ok(_) => Ok(None),
-        Err(refusal) => {
-            if wy_top_source::is_no_memory(refusal) {
-                return Err(NoMemory);
-            }
-            Ok(Some(Fault::of(refusal)))
-        }
+        Err(Refused::Fault(fault)) => Ok(Some(fault)),
+        Err(Refused::NoMemory) => Err(NoMemory),
     }
 }
 

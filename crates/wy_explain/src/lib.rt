@@ -3,7 +3,7 @@
 //! `explaining` has the call [`explain`]: it asks the passes for the fault of a source, or the search for the conditions that it leaves
 //! open, and writes what is told of them. `seen` has the source with its marks and nodes, and `told` puts findings together.
 //!
-//! `faults` has the faults, pass by pass: `text_faults` (with `follows`: what could stand there), `name_faults` (with `nearest` and
+//! `passes` leads from bytes to a typed program or to the first fault. `faults` has the faults, pass by pass: `text_faults` (with `follows`: what could stand there), `name_faults` (with `nearest` and
 //! `circles`), `type_faults` and `path_faults`. Types are asked of the checker of types by a program that is the same up to the fault
 //! (`asking`), and brought back to the source's words by `type_text`.
 //!
@@ -30,6 +30,7 @@ mod name_faults;
 mod naming;
 mod nearest;
 mod parts;
+mod passes;
 mod path_faults;
 mod seen;
 mod spent;
