@@ -210,7 +210,7 @@ fn put_goal(
     if all || parts.len() <= 1 {
         put_formula(page, words, goal, true)?;
         if page.as_slice() == b"false".as_slice() {
-            page.text(" (so each case that comes here has to be excluded)")?;
+            page.text(" (so no case may come here)")?;
         }
         return Ok(());
     }

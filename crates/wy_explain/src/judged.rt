@@ -19,10 +19,11 @@ pub fn judged(
     let mut carried = nothing_carried(alloc, terms.len());
     let mut verdicts = Vec::new(alloc);
     for i in 0..conds.len() {
-        match search(terms, &mut carried, &conds[i], budget) {
-            Ok(verdict) => verdicts.push(verdict)?,
+        let verdict = match search(terms, &mut carried, &conds[i], budget) {
+            Ok(verdict) => verdict,
             Err(_) => return Err(NoMemory),
-        }
+        };
+        verdicts.push(verdict)?;
     }
     Ok(verdicts)
 }
