@@ -61,9 +61,9 @@ fn part_text<'a>(seen: &Seen<'a>, node: Option<usize>, role: Role) -> &'a [u8] {
     match node {
         Some(node) => match seen.child(node, role) {
             Some(part) => seen.text(part.span),
-            None => b"it",
+            None => b"it".as_slice(),
         },
-        None => b"it",
+        None => b"it".as_slice(),
     }
 }
 
