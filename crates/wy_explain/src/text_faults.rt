@@ -154,6 +154,34 @@ fn bad_indent(alloc: Global, seen: &Seen, finding: &mut Finding) -> Result<(), N
     }
     finding.message.text(
         ". A deeper block begins behind a line that ends with `:`, with the spaces and tabs of the block around it first.",
+    )?;
+    let innermost = match open.as_slice().last() {
+        Some(indent) => seen.text(*indent).len(),
+        None => 0,
+    };
+    put_line_before(alloc, seen, finding, own, innermost)
+}
+
+// The line before, where the line is deeper than the innermost open block and the line before doesn't begin one.
+fn put_line_before(
+    alloc: Global,
+    seen: &Seen,
+    finding: &mut Finding,
+    own: Span,
+    innermost: usize,
+) -> Result<(), NoMemory> {
+    if own.from == 0 || seen.text(own).len() <= innermost {
+        return Ok(());
+    }
+    let before = seen.source.line_of(own.from.saturating_sub(1));
+    if before.is_empty() || seen.text(before).ends_with(b":") {
+        return Ok(());
+    }
+    point_at(
+        alloc,
+        finding,
+        "No block begins behind this line, which doesn't end with `:`:",
+        before,
     )
 }
 
