@@ -30,7 +30,7 @@ pub fn chosen(
         let own = made_of(alloc, terms, literal.0)?;
         let distance = distance(terms, aim.as_slice(), own.as_slice(), literal.0);
         let is_plain = literal.1 && are_plain(terms, own.as_slice());
-        if (distance > 0 && is_plain) || is_implied(terms, *literal, literals) {
+        if is_plain || is_implied(terms, *literal, literals) {
             continue;
         }
         facts.push(Fact {
