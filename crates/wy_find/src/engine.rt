@@ -75,7 +75,7 @@ pub struct Frame {
 
 // How far an atom's or pending formula's names are from the goal.
 fn distance(f: &Finder, formula: u32) -> u32 {
-    f.relevance.get(&formula).copied().unwrap_or(1)
+    f.relevance.get(&formula).copied().unwrap_or(2)
 }
 
 // The literal to split on: of the pending formula that is nearest to the goal and has the fewest open atoms.
@@ -96,7 +96,7 @@ fn choose(f: &mut Finder, terms: &mut Terms) -> Result<Option<Ref>, NoMemory> {
             let Some(lit) = first_literal(f, plan, &vals, wanted)? else {
                 continue;
             };
-            let d = distance(f, x.formula).min(6);
+            let d = if f.focus == x.formula { 0 } else { distance(f, x.formula).min(6) };
             let late = if d == 5 { 100000u64.saturating_sub(p.0 as u64) } else { (p.0 as u64) / 64 };
             let count = (atoms.len() as u64).min(30);
             let far = u64::from(d).saturating_mul(40).saturating_add(u64::from(x.age).saturating_mul(12));
@@ -173,17 +173,11 @@ pub fn run(f: &mut Finder, terms: &mut Terms, cond: &Cond, base: &Mark, splits: 
             None => {
                 let lit = if frames.len() as u64 >= u64::from(splits) { None } else { choose(f, terms)? };
                 let Some(lit) = lit else {
-                    if f.trace {
-                        open_leaf(f, terms);
-                    }
-                    back(f, base);
+back(f, base);
                     return Ok(None);
                 };
                 let at = here(f);
-                if f.trace {
-                    eprintln!("{}split {} {}", "  ".repeat(frames.len()), show(terms, lit.0), lit.1);
-                }
-                frames.push(Frame { at, lit })?;
+frames.push(Frame { at, lit })?;
                 let none = refs(f.alloc);
                 step_one(f, terms, How::Assumed, none, lit, 0)?;
             }
@@ -191,15 +185,6 @@ pub fn run(f: &mut Finder, terms: &mut Terms, cond: &Cond, base: &Mark, splits: 
     }
     back(f, base);
     Ok(None)
-}
-
-pub fn open_leaf(f: &Finder, terms: &Terms) {
-    eprintln!("open leaf");
-    for x in &f.items {
-        let l = if x.literal { "" } else { "?" };
-        let age = x.age;
-        eprintln!("   {l}{}{} [{age}]", if x.holds { "" } else { "not " }, show(terms, x.formula));
-    }
 }
 
 // A closed side becomes a literal at the lowest place where all that its proof needs stands; or the proof of the whole.
@@ -352,8 +337,13 @@ fn joins(f: &mut Finder, terms: &mut Terms, cond: &Cond) -> Result<Option<u32>, 
     if all.len() < 2 {
         return Ok(None);
     }
+    let near = names_in(f, terms, cond.goal)?;
     for formula in &all {
-        f.relevance.insert(*formula, 5)?;
+        let mut direct = false;
+        for v in &joined_names(terms, *formula)? {
+            direct = direct || near.contains(v);
+        }
+        f.relevance.insert(*formula, if direct { 1 } else { 5 })?;
     }
     let mut useful = Vec::new(f.alloc);
     for i in 0..all.len() {
@@ -388,8 +378,8 @@ pub fn solve(f: &mut Finder, terms: &mut Terms, cond: &Cond, effort: u64) -> Res
         return Ok(found);
     }
     f.products = true;
-    f.limit = 1;
-    f.effort = effort / 4;
+    f.limit = 0;
+    f.effort = effort;
     if let Some(p) = joins(f, terms, cond)? {
         return whole(f, &start, p);
     }

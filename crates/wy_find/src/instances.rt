@@ -46,7 +46,7 @@ fn make_patterns(f: &mut Finder, terms: &mut Terms, atom: u32, body: u32) -> Res
 }
 
 // Whether a name stands in an Int term once or denied once, beside terms without bound names.
-fn stands_in(f: &mut Finder, terms: &Terms, e: u32, bound: u32) -> Result<Option<bool>, NoMemory> {
+fn stands_in(f: &mut Finder, terms: &mut Terms, e: u32, bound: u32) -> Result<Option<bool>, NoMemory> {
     if e as usize >= terms.len() {
         return Ok(None);
     }
@@ -248,6 +248,13 @@ fn instances_at(f: &mut Finder, terms: &mut Terms, x: Item, patterns: &[Pattern]
     };
     if patterns.is_empty() {
         return instance(f, terms, x, t, r.age);
+    }
+    if let Shape::Update(_, _, _) = shape_of(terms, r.term) {
+        for p in patterns {
+            if p.array != NONE && p.index == p.bound && are_equal(f, p.array, r.term) {
+                any = instance(f, terms, x, t, r.age)? || any;
+            }
+        }
     }
     for p in patterns {
         let fits = if p.array == NONE { alike(terms, p.like, u) } else { are_equal(f, p.array, u) };

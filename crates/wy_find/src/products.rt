@@ -88,13 +88,25 @@ fn product(f: &mut Finder, terms: &mut Terms, p: u32, s: u32, t: u32) -> Result<
     for way in 0..4u32 {
         let low = way % 2 == 0;
         let other = way / 2 == 0;
-        let x = if low { a } else { b };
-        let y = if other { c } else { d };
+        let x = near(if low { a } else { b }, low);
+        let y = near(if other { c } else { d }, other);
         if let (Some(m), Some(n)) = (x, y) {
             state_product(f, terms, p, (s, m, low), (t, n, other))?;
         }
     }
     Ok(())
+}
+
+// A bound that isn't too far off for products: beyond that its sign alone is used.
+fn near(x: Option<i128>, low: bool) -> Option<i128> {
+    let n = x?;
+    if n > 1125899906842624 {
+        return if low { Some(1) } else { None };
+    }
+    if n < -1125899906842624 {
+        return if low { None } else { Some(-1) };
+    }
+    Some(n)
 }
 
 // States that the product of two distances from bounds is at least 0.

@@ -12,7 +12,7 @@ use wy_lin::term_form;
 use wy_term::{NoMemory, Terms};
 
 /// Adds a literal whose denial was closed by a proof.
-pub fn add_lemma(f: &mut Finder, terms: &Terms, proof: u32, lit: Ref) -> Result<bool, NoMemory> {
+pub fn add_lemma(f: &mut Finder, terms: &mut Terms, proof: u32, lit: Ref) -> Result<bool, NoMemory> {
     let (needs, _) = needs_but(f, proof, (lit.0, !lit.1))?;
     step_one(f, terms, How::Lemma(proof), needs, lit, 0)
 }
@@ -45,7 +45,7 @@ pub fn lemma(f: &mut Finder, terms: &mut Terms, lit: Ref) -> Result<bool, NoMemo
 // ---- pending formulas
 
 /// A closing by a pending formula that is judged no, or else the literals that follow from pending ones; says whether some were added.
-pub fn units(f: &mut Finder, terms: &Terms) -> Result<(Option<(End, Vec<Ref>)>, bool), NoMemory> {
+pub fn units(f: &mut Finder, terms: &mut Terms) -> Result<(Option<(End, Vec<Ref>)>, bool), NoMemory> {
     let mut any = false;
     let mut i = 0usize;
     for _ in 0..f.items.len() {
@@ -79,7 +79,7 @@ fn both_ways(f: &Finder, x: Item) -> Result<(End, Vec<Ref>), NoMemory> {
     Ok((End::Shut, needs))
 }
 
-fn unit(f: &mut Finder, terms: &Terms, x: Item, n: u32) -> Result<(Option<(End, Vec<Ref>)>, bool), NoMemory> {
+fn unit(f: &mut Finder, terms: &mut Terms, x: Item, n: u32) -> Result<(Option<(End, Vec<Ref>)>, bool), NoMemory> {
     let wanted = if x.holds { 1 } else { 2 };
     let mut literals = refs(f.alloc);
     let mut needs = refs(f.alloc);
@@ -108,7 +108,7 @@ fn unit(f: &mut Finder, terms: &Terms, x: Item, n: u32) -> Result<(Option<(End, 
 }
 
 // A literal without which the pending formula is judged no.
-fn unit_literal(f: &mut Finder, terms: &Terms, x: Item, n: u32, l: Ref) -> Result<bool, NoMemory> {
+fn unit_literal(f: &mut Finder, terms: &mut Terms, x: Item, n: u32, l: Ref) -> Result<bool, NoMemory> {
     f.known.insert((l.0, !l.1), NONE)?;
     let mut needs = refs(f.alloc);
     if let Some(plan) = f.plan_list.get(n as usize) {

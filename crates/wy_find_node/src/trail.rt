@@ -93,14 +93,13 @@ pub struct Finder {
     pub plans: HashMap<u32, u32>,
     pub plan_list: Vec<Plan>,
     pub binders: HashMap<u32, u32>,
-    pub open_terms: HashMap<u32, bool>,
+    pub open_terms: HashMap<u32, Vec<u32>>,
     pub decided: HashMap<u32, u64>,
     pub relevance: HashMap<u32, u32>,
     pub limit: u32,
     pub effort: u64,
     pub products: bool,
     pub focus: u32,
-    pub trace: bool,
     pub depth: u32,
     pub horizon: usize,
     pub given: usize,
@@ -145,7 +144,6 @@ pub fn no_finder(alloc: Global) -> Finder {
         effort: 0,
         products: false,
         focus: NONE,
-        trace: false,
         depth: 0,
         horizon: 0,
         given: 0,
@@ -237,7 +235,7 @@ pub fn first_time(f: &mut Finder, key: (u32, u32, u32)) -> Result<bool, NoMemory
 // ---- adding
 
 /// Adds a step, and what it adds. Says whether the trail has more.
-pub fn step(f: &mut Finder, terms: &Terms, how: How, needs: Vec<Ref>, adds: Vec<Ref>, age: u32) -> Result<bool, NoMemory> {
+pub fn step(f: &mut Finder, terms: &mut Terms, how: How, needs: Vec<Ref>, adds: Vec<Ref>, age: u32) -> Result<bool, NoMemory> {
     let first = f.items.len();
     for a in &adds {
         put(f, terms, a.0, a.1, age)?;
@@ -250,14 +248,14 @@ pub fn step(f: &mut Finder, terms: &Terms, how: How, needs: Vec<Ref>, adds: Vec<
 }
 
 /// A step that adds one formula.
-pub fn step_one(f: &mut Finder, terms: &Terms, how: How, needs: Vec<Ref>, add: Ref, age: u32) -> Result<bool, NoMemory> {
+pub fn step_one(f: &mut Finder, terms: &mut Terms, how: How, needs: Vec<Ref>, add: Ref, age: u32) -> Result<bool, NoMemory> {
     let mut adds = refs(f.alloc);
     adds.push(add)?;
     step(f, terms, how, needs, adds, age)
 }
 
 // A formula, taken apart as the checker does.
-fn put(f: &mut Finder, terms: &Terms, formula: u32, holds: bool, age: u32) -> Result<(), NoMemory> {
+fn put(f: &mut Finder, terms: &mut Terms, formula: u32, holds: bool, age: u32) -> Result<(), NoMemory> {
     let mut todo = refs(f.alloc);
     todo.push((formula, holds))?;
     for _ in 0..1000000 {
@@ -288,7 +286,7 @@ fn put_members(terms: &Terms, todo: &mut Vec<Ref>, g: u32, h: bool) -> Result<()
     Ok(())
 }
 
-fn put_item(f: &mut Finder, terms: &Terms, formula: u32, holds: bool, literal: bool, age: u32) -> Result<(), NoMemory> {
+fn put_item(f: &mut Finder, terms: &mut Terms, formula: u32, holds: bool, literal: bool, age: u32) -> Result<(), NoMemory> {
     if f.known.contains_key(&(formula, holds)) {
         return Ok(());
     }
@@ -300,8 +298,8 @@ fn put_item(f: &mut Finder, terms: &Terms, formula: u32, holds: bool, literal: b
 
 // ---- terms that stand in the node
 
-/// Whether a name that some quantifier binds stands in a term.
-pub fn is_open(f: &mut Finder, terms: &Terms, t: u32) -> Result<bool, NoMemory> {
+/// Whether a name that some quantifier binds stands free in a term.
+pub fn is_open(f: &mut Finder, terms: &mut Terms, t: u32) -> Result<bool, NoMemory> {
     let mut todo = Vec::new(f.alloc);
     todo.push(t)?;
     for _ in 0..10000000 {
@@ -312,27 +310,47 @@ pub fn is_open(f: &mut Finder, terms: &Terms, t: u32) -> Result<bool, NoMemory> 
             let _ = todo.pop();
             continue;
         }
-        if f.binders.contains_key(&u) {
-            f.open_terms.insert(u, true)?;
-            continue;
-        }
-        let parts = kids(terms, u)?;
-        let mut any = false;
         let mut missing = false;
-        for p in &parts {
-            match f.open_terms.get(p) {
-                Some(x) => any = any || *x,
-                None => {
-                    todo.push(*p)?;
-                    missing = true;
-                }
+        for p in &kids(terms, u)? {
+            if !f.open_terms.contains_key(p) {
+                todo.push(*p)?;
+                missing = true;
             }
         }
         if !missing {
-            f.open_terms.insert(u, any)?;
+            let free = free_binders(f, terms, u)?;
+            f.open_terms.insert(u, free)?;
         }
     }
-    Ok(f.open_terms.get(&t).copied().unwrap_or(true))
+    match f.open_terms.get(&t) {
+        Some(free) => Ok(!free.is_empty()),
+        None => Ok(true),
+    }
+}
+
+// The names of quantifiers that stand free in a term, by those of its parts.
+fn free_binders(f: &Finder, terms: &mut Terms, t: u32) -> Result<Vec<u32>, NoMemory> {
+    let mut free = Vec::new(f.alloc);
+    if f.binders.contains_key(&t) {
+        free.push(t)?;
+        return Ok(free);
+    }
+    let mut own = NONE;
+    if let Shape::All(_, _, _) | Shape::Some(_, _, _) = shape_of(terms, t) {
+        if let Some(n) = name_number(terms, t) {
+            own = int_name(terms, t, n)?;
+        }
+    }
+    for p in &kids(terms, t)? {
+        if let Some(names) = f.open_terms.get(p) {
+            for x in names {
+                if *x != own && !free.contains(x) {
+                    free.push(*x)?;
+                }
+            }
+        }
+    }
+    Ok(free)
 }
 
 /// Notes the names that the quantifiers of a formula bind.
@@ -366,7 +384,7 @@ pub fn note_binders(f: &mut Finder, terms: &mut Terms, formula: u32, seen: &mut 
 }
 
 /// Notes the Int and Val terms that stand in a formula, without bound names.
-pub fn register(f: &mut Finder, terms: &Terms, formula: u32, age: u32) -> Result<(), NoMemory> {
+pub fn register(f: &mut Finder, terms: &mut Terms, formula: u32, age: u32) -> Result<(), NoMemory> {
     let mut todo = Vec::new(f.alloc);
     todo.push(formula)?;
     let mut seen: HashMap<u32, u32> = HashMap::new(f.alloc);
