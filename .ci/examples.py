@@ -1,6 +1,6 @@
-"""Runs the tables of examples/accepted, examples/refused and examples/runs against a built program: `examples.py PROGRAM`.
+"""Runs the tables of examples/accepted, examples/found, examples/refused and examples/runs against a built program: `examples.py PROGRAM`.
 
-A row of `accepted` names a file and its number of conditions, one of `refused` a file with the first line and, where it has one, the
+A row of `accepted` and of `found` names a file and its number of conditions, one of `refused` a file with the first line and, where it has one, the
 last line on standard error, one of `runs` words with both outputs and the status. The last line tells how many agreed.
 """
 import os
@@ -28,6 +28,11 @@ def accepted(program, cells):
     return called(program, "accepted", ["check", cells[0], "none"]) == (0, f"accepted {cells[1]} conditions\n", "")
 
 
+def found(program, cells):
+    words = ["check", cells[0], cells[0].replace(".wy", ".cert"), "--budget", "0"]
+    return called(program, "found", words) == (0, f"accepted {cells[1]} conditions\n", "")
+
+
 def refused(program, cells):
     status, out, err = called(program, "refused", ["check", cells[0], "none"])
     lines = err.splitlines() or [""]
@@ -44,7 +49,7 @@ def run(program, cells):
 
 def main():
     passed, failed = 0, 0
-    for folder, test in (("accepted", accepted), ("refused", refused), ("runs", run)):
+    for folder, test in (("accepted", accepted), ("found", found), ("refused", refused), ("runs", run)):
         for cells in rows(folder):
             if test(os.path.abspath(sys.argv[1]), cells):
                 passed += 1

@@ -66,7 +66,14 @@ fn side(f: &Finder, p: (u32, i128), above: bool) -> Bound {
     if (p.1 > 0) == above { x.high } else { x.low }
 }
 
-fn cut_row(f: &mut Finder, terms: &mut Terms, all: &[(u32, i128)], v: (u32, i128), g: i128, above: bool) -> Result<bool, NoMemory> {
+fn cut_row(
+    f: &mut Finder,
+    terms: &mut Terms,
+    all: &[(u32, i128)],
+    v: (u32, i128),
+    g: i128,
+    above: bool,
+) -> Result<bool, NoMemory> {
     let mut used: Vec<(i128, Bound)> = Vec::new(f.alloc);
     let mut least = 1i128;
     let mut sum = Some(0i128);
@@ -80,7 +87,11 @@ fn cut_row(f: &mut Finder, terms: &mut Terms, all: &[(u32, i128)], v: (u32, i128
             used.push((m, b))?;
             sum = added(sum, p.1.checked_mul(b.value));
             let h = common(least, b.scale);
-            least = least.checked_div(h).unwrap_or(1).checked_mul(b.scale).unwrap_or(0);
+            least = least
+                .checked_div(h)
+                .unwrap_or(1)
+                .checked_mul(b.scale)
+                .unwrap_or(0);
         }
     }
     let Some(k) = sum else {

@@ -5,18 +5,26 @@ use crate::facts::{facts_round, scan_names};
 use crate::instances::instances_round;
 use crate::joins::{join_lemmas, joined_names, measures};
 use crate::products::{products_round, sign_split};
-use crate::theory::{add_lemma, bounds_to_classes, classes_to_bounds, decide_atoms, open_pending, units};
+use crate::theory::{
+    add_lemma, bounds_to_classes, classes_to_bounds, decide_atoms, open_pending, units,
+};
 use std::collections::HashMap;
 use wy_find_node::bounds::linear_closing;
 use wy_find_node::congruence::{at32, clash, join_all};
 use wy_find_node::looking::{Shape, kids, shape_of};
 use wy_find_node::plans::{Plan, at8, open_atoms, values};
 use wy_find_node::tableau::{NONE, Ref};
-use wy_find_node::trail::{End, Finder, How, Mark, back, close, here, needs_but, needs_of, note_binders, refs, step_one};
+use wy_find_node::trail::{
+    End, Finder, How, Mark, back, close, here, needs_but, needs_of, note_binders, refs, step_one,
+};
 use wy_term::{Cond, NoMemory, Terms};
 
 /// Adds what follows until nothing does, or the node closes.
-pub fn saturate(f: &mut Finder, terms: &mut Terms, cond: &Cond) -> Result<Option<(End, Vec<Ref>)>, NoMemory> {
+pub fn saturate(
+    f: &mut Finder,
+    terms: &mut Terms,
+    cond: &Cond,
+) -> Result<Option<(End, Vec<Ref>)>, NoMemory> {
     let mut rounds = 0u32;
     for _ in 0..10000 {
         if f.effort == 0 {
@@ -96,10 +104,20 @@ fn choose(f: &mut Finder, terms: &mut Terms) -> Result<Option<Ref>, NoMemory> {
             let Some(lit) = first_literal(f, plan, &vals, wanted)? else {
                 continue;
             };
-            let d = if f.focus == x.formula { 0 } else { distance(f, x.formula).min(6) };
-            let late = if d == 5 { 100000u64.saturating_sub(p.0 as u64) } else { (p.0 as u64) / 64 };
+            let d = if f.focus == x.formula {
+                0
+            } else {
+                distance(f, x.formula).min(6)
+            };
+            let late = if d == 5 {
+                100000u64.saturating_sub(p.0 as u64)
+            } else {
+                (p.0 as u64) / 64
+            };
             let count = (atoms.len() as u64).min(30);
-            let far = u64::from(d).saturating_mul(40).saturating_add(u64::from(x.age).saturating_mul(12));
+            let far = u64::from(d)
+                .saturating_mul(40)
+                .saturating_add(u64::from(x.age).saturating_mul(12));
             let score = far.saturating_add(count).saturating_add(late);
             let better = match best {
                 None => true,
@@ -112,12 +130,21 @@ fn choose(f: &mut Finder, terms: &mut Terms) -> Result<Option<Ref>, NoMemory> {
     }
     match best {
         Some((_, lit)) => Ok(Some(lit)),
-        None => if f.products { sign_split(f, terms) } else { Ok(None) },
+        None => if f.products {
+            sign_split(f, terms)
+        } else {
+            Ok(None)
+        },
     }
 }
 
 // An open atom of a formula, with the value by which it helps to make the formula hold.
-fn first_literal(f: &Finder, plan: &Plan, vals: &[u8], wanted: u8) -> Result<Option<Ref>, NoMemory> {
+fn first_literal(
+    f: &Finder,
+    plan: &Plan,
+    vals: &[u8],
+    wanted: u8,
+) -> Result<Option<Ref>, NoMemory> {
     let count = plan.nodes.len();
     let mut at = count.saturating_sub(1);
     let mut w = wanted;
@@ -151,7 +178,13 @@ fn first_literal(f: &Finder, plan: &Plan, vals: &[u8], wanted: u8) -> Result<Opt
 }
 
 /// Looks for a proof of the node at a place, by splits. The trail is as it was afterwards.
-pub fn run(f: &mut Finder, terms: &mut Terms, cond: &Cond, base: &Mark, splits: u32) -> Result<Option<u32>, NoMemory> {
+pub fn run(
+    f: &mut Finder,
+    terms: &mut Terms,
+    cond: &Cond,
+    base: &Mark,
+    splits: u32,
+) -> Result<Option<u32>, NoMemory> {
     let mut frames: Vec<Frame> = Vec::new(f.alloc);
     for _ in 0..2000000 {
         if f.effort == 0 {
@@ -171,13 +204,17 @@ pub fn run(f: &mut Finder, terms: &mut Terms, cond: &Cond, base: &Mark, splits: 
                 }
             }
             None => {
-                let lit = if frames.len() as u64 >= u64::from(splits) { None } else { choose(f, terms)? };
+                let lit = if frames.len() as u64 >= u64::from(splits) {
+                    None
+                } else {
+                    choose(f, terms)?
+                };
                 let Some(lit) = lit else {
-back(f, base);
+                    back(f, base);
                     return Ok(None);
                 };
                 let at = here(f);
-frames.push(Frame { at, lit })?;
+                frames.push(Frame { at, lit })?;
                 let none = refs(f.alloc);
                 step_one(f, terms, How::Assumed, none, lit, 0)?;
             }
@@ -188,7 +225,13 @@ frames.push(Frame { at, lit })?;
 }
 
 // A closed side becomes a literal at the lowest place where all that its proof needs stands; or the proof of the whole.
-fn learned(f: &mut Finder, terms: &mut Terms, frames: &mut Vec<Frame>, base: &Mark, proof: u32) -> Result<Option<u32>, NoMemory> {
+fn learned(
+    f: &mut Finder,
+    terms: &mut Terms,
+    frames: &mut Vec<Frame>,
+    base: &Mark,
+    proof: u32,
+) -> Result<Option<u32>, NoMemory> {
     let mut p = proof;
     for _ in 0..frames.len().saturating_add(1) {
         let Some(fr) = frames.pop() else {
@@ -366,7 +409,12 @@ fn joins(f: &mut Finder, terms: &mut Terms, cond: &Cond) -> Result<Option<u32>, 
 }
 
 /// A proof of a condition: its number among the finder's proofs.
-pub fn solve(f: &mut Finder, terms: &mut Terms, cond: &Cond, effort: u64) -> Result<Option<u32>, NoMemory> {
+pub fn solve(
+    f: &mut Finder,
+    terms: &mut Terms,
+    cond: &Cond,
+    effort: u64,
+) -> Result<Option<u32>, NoMemory> {
     scan_names(f, terms);
     begin(f, terms, cond)?;
     measure(f, terms, cond)?;

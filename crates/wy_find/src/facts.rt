@@ -3,7 +3,10 @@
 use std::collections::HashMap;
 use wy_facts::fact;
 use wy_find_node::congruence::{at32, class_of, join_all, joining, rep_of, state_equal};
-use wy_find_node::looking::{Shape, add, at_most, field_like, get, int_name, kids, kind_asked, kind_like, len, mul, name_number, null, num, number, same_field, set_other, shape_of, update, val_name};
+use wy_find_node::looking::{
+    Shape, add, at_most, field_like, get, int_name, kids, kind_asked, kind_like, len, mul,
+    name_number, null, num, number, same_field, set_other, shape_of, update, val_name,
+};
 use wy_find_node::plans::{open_atoms, plan_of, values};
 use wy_find_node::tableau::NONE;
 use wy_find_node::trail::{Finder, How, Item, Reg, first_time, refs, sign, step, step_one};
@@ -11,7 +14,14 @@ use wy_term::{Cond, NoMemory, Terms};
 use wy_term_subst::subst;
 
 /// Adds the formula of a schema, once.
-pub fn add_fact(f: &mut Finder, terms: &mut Terms, cond: &Cond, schema: u32, args: &[u32], age: u32) -> Result<bool, NoMemory> {
+pub fn add_fact(
+    f: &mut Finder,
+    terms: &mut Terms,
+    cond: &Cond,
+    schema: u32,
+    args: &[u32],
+    age: u32,
+) -> Result<bool, NoMemory> {
     let key = (schema.saturating_add(100), at32(args, 0), at32(args, 1));
     if !first_time(f, key)? {
         return Ok(false);
@@ -26,7 +36,14 @@ pub fn add_fact(f: &mut Finder, terms: &mut Terms, cond: &Cond, schema: u32, arg
     };
     let named = Vec::from_slice(f.alloc, args)?;
     let none = refs(f.alloc);
-    step_one(f, terms, How::Fact(schema, named), none, (formula, true), age)
+    step_one(
+        f,
+        terms,
+        How::Fact(schema, named),
+        none,
+        (formula, true),
+        age,
+    )
 }
 
 /// One round of facts; says whether something was added.
@@ -82,7 +99,14 @@ fn term_facts(f: &mut Finder, terms: &mut Terms, cond: &Cond, r: Reg) -> Result<
     }
 }
 
-fn length_facts(f: &mut Finder, terms: &mut Terms, cond: &Cond, v: u32, m: u32, age: u32) -> Result<(), NoMemory> {
+fn length_facts(
+    f: &mut Finder,
+    terms: &mut Terms,
+    cond: &Cond,
+    v: u32,
+    m: u32,
+    age: u32,
+) -> Result<(), NoMemory> {
     match shape_of(terms, m) {
         Shape::Update(_, _, _) => {
             add_fact(f, terms, cond, 3, &[m], age)?;
@@ -108,7 +132,13 @@ fn length_facts(f: &mut Finder, terms: &mut Terms, cond: &Cond, v: u32, m: u32, 
     }
 }
 
-fn element_facts(f: &mut Finder, terms: &mut Terms, cond: &Cond, at: (u32, u32, u32), age: u32) -> Result<(), NoMemory> {
+fn element_facts(
+    f: &mut Finder,
+    terms: &mut Terms,
+    cond: &Cond,
+    at: (u32, u32, u32),
+    age: u32,
+) -> Result<(), NoMemory> {
     let (v, j, m) = at;
     match shape_of(terms, m) {
         Shape::Update(_, _, _) => {
@@ -128,7 +158,15 @@ fn element_facts(f: &mut Finder, terms: &mut Terms, cond: &Cond, at: (u32, u32, 
 }
 
 // An element of an array that is written out: at a number, by an index that is this number and isn't folded.
-fn written_element(f: &mut Finder, terms: &mut Terms, cond: &Cond, v: u32, j: u32, m: u32, age: u32) -> Result<(), NoMemory> {
+fn written_element(
+    f: &mut Finder,
+    terms: &mut Terms,
+    cond: &Cond,
+    v: u32,
+    j: u32,
+    m: u32,
+    age: u32,
+) -> Result<(), NoMemory> {
     let count = kids(terms, m)?.len();
     if let Shape::Number(n) = shape_of(terms, j) {
         if m == v || n < 0 {
@@ -154,7 +192,13 @@ fn written_element(f: &mut Finder, terms: &mut Terms, cond: &Cond, v: u32, j: u3
     Ok(())
 }
 
-fn field_facts(f: &mut Finder, terms: &mut Terms, cond: &Cond, at: (u32, u32, u32), age: u32) -> Result<(), NoMemory> {
+fn field_facts(
+    f: &mut Finder,
+    terms: &mut Terms,
+    cond: &Cond,
+    at: (u32, u32, u32),
+    age: u32,
+) -> Result<(), NoMemory> {
     let (t, v, m) = at;
     match shape_of(terms, m) {
         Shape::SetField(_, _) => {
@@ -168,7 +212,10 @@ fn field_facts(f: &mut Finder, terms: &mut Terms, cond: &Cond, at: (u32, u32, u3
                 return Ok(());
             }
             let nothing = null(terms)?;
-            let (Some(one), Some(two)) = (set_other(terms, m, t, v, nothing)?, set_other(terms, m, t, m, nothing)?) else {
+            let (Some(one), Some(two)) = (
+                set_other(terms, m, t, v, nothing)?,
+                set_other(terms, m, t, m, nothing)?,
+            ) else {
                 return Ok(());
             };
             let g = field_like(terms, one, t)?;
@@ -181,7 +228,14 @@ fn field_facts(f: &mut Finder, terms: &mut Terms, cond: &Cond, at: (u32, u32, u3
     }
 }
 
-fn number_facts(f: &mut Finder, terms: &mut Terms, cond: &Cond, v: u32, m: u32, age: u32) -> Result<(), NoMemory> {
+fn number_facts(
+    f: &mut Finder,
+    terms: &mut Terms,
+    cond: &Cond,
+    v: u32,
+    m: u32,
+    age: u32,
+) -> Result<(), NoMemory> {
     let Shape::Int(_) = shape_of(terms, m) else {
         return Ok(());
     };
@@ -255,7 +309,13 @@ fn kind_facts(f: &mut Finder, terms: &mut Terms, cond: &Cond) -> Result<(), NoMe
     Ok(())
 }
 
-fn literal_facts(f: &mut Finder, terms: &mut Terms, cond: &Cond, x: Item, sides: &HashMap<u32, u32>) -> Result<(), NoMemory> {
+fn literal_facts(
+    f: &mut Finder,
+    terms: &mut Terms,
+    cond: &Cond,
+    x: Item,
+    sides: &HashMap<u32, u32>,
+) -> Result<(), NoMemory> {
     match shape_of(terms, x.formula) {
         Shape::Kind(v) => {
             changed_kind(f, terms, cond, x.formula, v, x.age)?;
@@ -271,14 +331,29 @@ fn literal_facts(f: &mut Finder, terms: &mut Terms, cond: &Cond, x: Item, sides:
             }
             Ok(())
         }
-        Shape::All(_, _, _) => if x.holds { Ok(()) } else { witness(f, terms, x) },
-        Shape::Some(_, _, _) => if x.holds { witness(f, terms, x) } else { Ok(()) },
+        Shape::All(_, _, _) => if x.holds {
+            Ok(())
+        } else {
+            witness(f, terms, x)
+        },
+        Shape::Some(_, _, _) => if x.holds {
+            witness(f, terms, x)
+        } else {
+            Ok(())
+        },
         _ => Ok(()),
     }
 }
 
 // A test of kind of a datum whose class has one with a changed part.
-fn changed_kind(f: &mut Finder, terms: &mut Terms, cond: &Cond, test: u32, v: u32, age: u32) -> Result<(), NoMemory> {
+fn changed_kind(
+    f: &mut Finder,
+    terms: &mut Terms,
+    cond: &Cond,
+    test: u32,
+    v: u32,
+    age: u32,
+) -> Result<(), NoMemory> {
     for m in &class_of(f, v)? {
         let schema = match shape_of(terms, *m) {
             Shape::Update(_, _, _) => 12,
@@ -339,6 +414,13 @@ fn witness(f: &mut Finder, terms: &mut Terms, x: Item) -> Result<(), NoMemory> {
     adds.push((at, x.holds))?;
     let mut needs = refs(f.alloc);
     needs.push((x.formula, x.holds))?;
-    step(f, terms, How::Wit((x.formula, x.holds), floor, marked), needs, adds, x.age)?;
+    step(
+        f,
+        terms,
+        How::Wit((x.formula, x.holds), floor, marked),
+        needs,
+        adds,
+        x.age,
+    )?;
     Ok(())
 }

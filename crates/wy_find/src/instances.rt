@@ -2,15 +2,25 @@
 
 use std::collections::HashMap;
 use wy_find_node::congruence::{are_equal, join_all};
-use wy_find_node::looking::{Shape, add, at_most, denial, int_name, is_int, kids, mul, name_number, number, one_of_three, same_field, shape_of, sub};
+use wy_find_node::looking::{
+    Shape, add, at_most, denial, int_name, is_int, kids, mul, name_number, number, one_of_three,
+    same_field, shape_of, sub,
+};
 use wy_find_node::tableau::NONE;
-use wy_find_node::trail::{Finder, How, Item, Pattern, Reg, first_time, is_open, refs, sign, step_one};
+use wy_find_node::trail::{
+    Finder, How, Item, Pattern, Reg, first_time, is_open, refs, sign, step_one,
+};
 use wy_lin::term_form;
 use wy_term::{NoMemory, Terms};
 use wy_term_subst::subst;
 
 // The places of a quantifier's body where its name stands in an index.
-fn make_patterns(f: &mut Finder, terms: &mut Terms, atom: u32, body: u32) -> Result<Vec<Pattern>, NoMemory> {
+fn make_patterns(
+    f: &mut Finder,
+    terms: &mut Terms,
+    atom: u32,
+    body: u32,
+) -> Result<Vec<Pattern>, NoMemory> {
     let mut all = Vec::new(f.alloc);
     let Some(n) = name_number(terms, atom) else {
         return Ok(all);
@@ -38,7 +48,13 @@ fn make_patterns(f: &mut Finder, terms: &mut Terms, atom: u32, body: u32) -> Res
         if let Some((a, e)) = place {
             if let Some(up) = stands_in(f, terms, e, bound)? {
                 let array = if is_open(f, terms, a)? { NONE } else { a };
-                all.push(Pattern { array, like: a, index: e, bound, up })?;
+                all.push(Pattern {
+                    array,
+                    like: a,
+                    index: e,
+                    bound,
+                    up,
+                })?;
             }
         }
     }
@@ -46,7 +62,12 @@ fn make_patterns(f: &mut Finder, terms: &mut Terms, atom: u32, body: u32) -> Res
 }
 
 // Whether a name stands in an Int term once or denied once, beside terms without bound names.
-fn stands_in(f: &mut Finder, terms: &mut Terms, e: u32, bound: u32) -> Result<Option<bool>, NoMemory> {
+fn stands_in(
+    f: &mut Finder,
+    terms: &mut Terms,
+    e: u32,
+    bound: u32,
+) -> Result<Option<bool>, NoMemory> {
     if e as usize >= terms.len() {
         return Ok(None);
     }
@@ -140,7 +161,10 @@ fn solved(f: &mut Finder, terms: &mut Terms, p: &Pattern, t: u32) -> Result<Opti
     if t as usize >= terms.len() || p.index as usize >= terms.len() {
         return Ok(None);
     }
-    let (Some(a), Some(b)) = (term_form(f.alloc, terms, t)?, term_form(f.alloc, terms, p.index)?) else {
+    let (Some(a), Some(b)) = (
+        term_form(f.alloc, terms, t)?,
+        term_form(f.alloc, terms, p.index)?,
+    ) else {
         return Ok(None);
     };
     let mut sum: Vec<(i128, u32)> = Vec::new(f.alloc);
@@ -150,7 +174,11 @@ fn solved(f: &mut Finder, terms: &mut Terms, p: &Pattern, t: u32) -> Result<Opti
     }
     for x in &b.parts {
         if x.1 != p.bound {
-            merge(&mut sum, x.1, x.0.checked_mul(sign.wrapping_neg()).unwrap_or(0))?;
+            merge(
+                &mut sum,
+                x.1,
+                x.0.checked_mul(sign.wrapping_neg()).unwrap_or(0),
+            )?;
         }
     }
     let Some(c) = a.constant.checked_sub(b.constant) else {
@@ -234,7 +262,13 @@ fn instances_of(f: &mut Finder, terms: &mut Terms, x: Item, body: u32) -> Result
     Ok(any)
 }
 
-fn instances_at(f: &mut Finder, terms: &mut Terms, x: Item, patterns: &[Pattern], r: Reg) -> Result<bool, NoMemory> {
+fn instances_at(
+    f: &mut Finder,
+    terms: &mut Terms,
+    x: Item,
+    patterns: &[Pattern],
+    r: Reg,
+) -> Result<bool, NoMemory> {
     let mut any = false;
     if patterns.is_empty() {
         if shape_of(terms, r.term) == Shape::IntName {
@@ -257,7 +291,11 @@ fn instances_at(f: &mut Finder, terms: &mut Terms, x: Item, patterns: &[Pattern]
         }
     }
     for p in patterns {
-        let fits = if p.array == NONE { alike(terms, p.like, u) } else { are_equal(f, p.array, u) };
+        let fits = if p.array == NONE {
+            alike(terms, p.like, u)
+        } else {
+            are_equal(f, p.array, u)
+        };
         if fits {
             if let Some(k) = solved(f, terms, p, t)? {
                 any = instance(f, terms, x, k, r.age)? || any;
@@ -270,7 +308,9 @@ fn instances_at(f: &mut Finder, terms: &mut Terms, x: Item, patterns: &[Pattern]
 // Whether two arrays are read off in the same way.
 fn alike(terms: &Terms, a: u32, b: u32) -> bool {
     match (shape_of(terms, a), shape_of(terms, b)) {
-        (Shape::Get(_, _), Shape::Get(_, _)) | (Shape::Update(_, _, _), _) | (_, Shape::Update(_, _, _)) => true,
+        (Shape::Get(_, _), Shape::Get(_, _))
+        | (Shape::Update(_, _, _), _)
+        | (_, Shape::Update(_, _, _)) => true,
         (Shape::Field(_), Shape::Field(_)) => same_field(terms, a, b),
         (_, Shape::ValName) | (Shape::Get(_, _), Shape::Repeat(_, _)) => true,
         _ => false,
@@ -278,7 +318,13 @@ fn alike(terms: &Terms, a: u32, b: u32) -> bool {
 }
 
 // The instance at a term, once.
-fn instance(f: &mut Finder, terms: &mut Terms, x: Item, t: u32, age: u32) -> Result<bool, NoMemory> {
+fn instance(
+    f: &mut Finder,
+    terms: &mut Terms,
+    x: Item,
+    t: u32,
+    age: u32,
+) -> Result<bool, NoMemory> {
     if !is_int(terms, t) || !first_time(f, (sign(x.holds), x.formula, t))? {
         return Ok(false);
     }
@@ -302,5 +348,12 @@ fn instance(f: &mut Finder, terms: &mut Terms, x: Item, t: u32, age: u32) -> Res
     let formula = one_of_three(terms, outside, behind, stated)?;
     let mut needs = refs(f.alloc);
     needs.push((x.formula, x.holds))?;
-    step_one(f, terms, How::Inst((x.formula, x.holds), t), needs, (formula, true), x.age.max(age).saturating_add(1))
+    step_one(
+        f,
+        terms,
+        How::Inst((x.formula, x.holds), t),
+        needs,
+        (formula, true),
+        x.age.max(age).saturating_add(1),
+    )
 }

@@ -6,7 +6,9 @@ use crate::theory::add_lemma;
 use std::alloc::Global;
 use wy_find_node::bounds::decided_by_bounds;
 use wy_find_node::congruence::{are_equal, at32, class_of, join_all};
-use wy_find_node::looking::{Shape, at_most, equal, is_atom, is_int, kids, kind_like, len, num, number, shape_of};
+use wy_find_node::looking::{
+    Shape, at_most, equal, is_atom, is_int, kids, kind_like, len, num, number, shape_of,
+};
 use wy_find_node::tableau::{Checked, check};
 use wy_find_node::trail::{Finder, How, back, here, refs, register, step_one, value_of_atom};
 use wy_term::{Cond, NoMemory, Terms};
@@ -71,7 +73,11 @@ pub fn measures(f: &mut Finder, terms: &mut Terms, formula: u32) -> Result<bool,
     let members = kids(terms, formula)?;
     for v in &joined_names(terms, formula)? {
         for k in 0..2 {
-            let measure = if k == 0 { num(terms, *v)? } else { len(terms, *v)? };
+            let measure = if k == 0 {
+                num(terms, *v)?
+            } else {
+                len(terms, *v)?
+            };
             if !f.reg_of.contains_key(&measure) {
                 continue;
             }
@@ -80,7 +86,11 @@ pub fn measures(f: &mut Finder, terms: &mut Terms, formula: u32) -> Result<bool,
                 for e in &kids(terms, *m)? {
                     if let Shape::Equal(a, b) = shape_of(terms, *e) {
                         if a == *v && shape_of(terms, b) == Shape::ValName {
-                            let other = if k == 0 { num(terms, b)? } else { len(terms, b)? };
+                            let other = if k == 0 {
+                                num(terms, b)?
+                            } else {
+                                len(terms, b)?
+                            };
                             register(f, terms, other, 0)?;
                         }
                     }
@@ -118,7 +128,14 @@ fn seen(f: &mut Finder, terms: &mut Terms, name: u32, measure: u32) -> Result<Jo
             }
         }
     }
-    Ok(Joined { name, measure, low, high, equal, kinds })
+    Ok(Joined {
+        name,
+        measure,
+        low,
+        high,
+        equal,
+        kinds,
+    })
 }
 
 fn lower(a: Option<i128>, b: Option<i128>) -> Option<i128> {
@@ -144,7 +161,12 @@ fn common_to(alloc: Global, a: &[u32], b: &[u32]) -> Result<Vec<u32>, NoMemory> 
 }
 
 /// Adds what holds on all paths of a join, one literal after the other, each proved by splits of this join alone.
-pub fn join_lemmas(f: &mut Finder, terms: &mut Terms, cond: &Cond, formula: u32) -> Result<Option<u32>, NoMemory> {
+pub fn join_lemmas(
+    f: &mut Finder,
+    terms: &mut Terms,
+    cond: &Cond,
+    formula: u32,
+) -> Result<Option<u32>, NoMemory> {
     let names = joined_names(terms, formula)?;
     let members = kids(terms, formula)?;
     let mut all: Vec<Joined> = Vec::new(f.alloc);
@@ -172,7 +194,12 @@ pub fn join_lemmas(f: &mut Finder, terms: &mut Terms, cond: &Cond, formula: u32)
 }
 
 // A proof of the node by splits of one formula.
-fn focused(f: &mut Finder, terms: &mut Terms, cond: &Cond, formula: u32) -> Result<Option<u32>, NoMemory> {
+fn focused(
+    f: &mut Finder,
+    terms: &mut Terms,
+    cond: &Cond,
+    formula: u32,
+) -> Result<Option<u32>, NoMemory> {
     let base = here(f);
     let focus = f.focus;
     f.focus = formula;
@@ -182,11 +209,21 @@ fn focused(f: &mut Finder, terms: &mut Terms, cond: &Cond, formula: u32) -> Resu
 }
 
 // What holds on one more path.
-fn path(f: &mut Finder, terms: &mut Terms, names: &[u32], all: &mut Vec<Joined>, first: bool) -> Result<(), NoMemory> {
+fn path(
+    f: &mut Finder,
+    terms: &mut Terms,
+    names: &[u32],
+    all: &mut Vec<Joined>,
+    first: bool,
+) -> Result<(), NoMemory> {
     let mut at = 0usize;
     for v in names {
         for k in 0..2 {
-            let measure = if k == 0 { num(terms, *v)? } else { len(terms, *v)? };
+            let measure = if k == 0 {
+                num(terms, *v)?
+            } else {
+                len(terms, *v)?
+            };
             if !f.reg_of.contains_key(&measure) {
                 continue;
             }
@@ -207,7 +244,14 @@ fn path(f: &mut Finder, terms: &mut Terms, names: &[u32], all: &mut Vec<Joined>,
     Ok(())
 }
 
-fn state_joined(f: &mut Finder, terms: &mut Terms, cond: &Cond, formula: u32, j: &Joined, several: bool) -> Result<(), NoMemory> {
+fn state_joined(
+    f: &mut Finder,
+    terms: &mut Terms,
+    cond: &Cond,
+    formula: u32,
+    j: &Joined,
+    several: bool,
+) -> Result<(), NoMemory> {
     if let Some(n) = j.low {
         let z = number(terms, n)?;
         let a = at_most(terms, z, j.measure)?;
@@ -244,7 +288,13 @@ fn state_joined(f: &mut Finder, terms: &mut Terms, cond: &Cond, formula: u32, j:
 }
 
 // Adds an atom that holds, if a split of the join shows it.
-fn state(f: &mut Finder, terms: &mut Terms, cond: &Cond, formula: u32, atom: u32) -> Result<(), NoMemory> {
+fn state(
+    f: &mut Finder,
+    terms: &mut Terms,
+    cond: &Cond,
+    formula: u32,
+    atom: u32,
+) -> Result<(), NoMemory> {
     if !is_atom(terms, atom) || value_of_atom(f, atom) != 0 {
         return Ok(());
     }

@@ -10,7 +10,11 @@ use wy_lin::term_form;
 use wy_term::{NoMemory, Terms};
 
 /// The least and the greatest whole number that the bounds leave to an Int term.
-pub fn range_of(f: &mut Finder, terms: &Terms, t: u32) -> Result<(Option<i128>, Option<i128>), NoMemory> {
+pub fn range_of(
+    f: &mut Finder,
+    terms: &Terms,
+    t: u32,
+) -> Result<(Option<i128>, Option<i128>), NoMemory> {
     if let Shape::Number(n) = shape_of(terms, t) {
         return Ok((Some(n), Some(n)));
     }
@@ -41,7 +45,11 @@ fn placed(x: Option<Ratio>, a: &AtomForm) -> Option<Ratio> {
 
 fn least(x: Option<Ratio>, a: &AtomForm) -> Option<i128> {
     let r = placed(x, a)?;
-    floor(Ratio { n: r.n.checked_neg()?, d: r.d }).checked_neg()
+    floor(Ratio {
+        n: r.n.checked_neg()?,
+        d: r.d,
+    })
+    .checked_neg()
 }
 
 fn greatest(x: Option<Ratio>, a: &AtomForm) -> Option<i128> {
@@ -51,7 +59,11 @@ fn greatest(x: Option<Ratio>, a: &AtomForm) -> Option<i128> {
 // The bound of a factor as a literal: `n <= t`, or else `t <= n`.
 fn bound_atom(terms: &mut Terms, t: u32, n: i128, low: bool) -> Result<u32, NoMemory> {
     let z = number(terms, n)?;
-    if low { at_most(terms, z, t) } else { at_most(terms, t, z) }
+    if low {
+        at_most(terms, z, t)
+    } else {
+        at_most(terms, t, z)
+    }
 }
 
 /// One round of products of bounds; says whether something was added.
@@ -84,7 +96,11 @@ pub fn term_form_is_one(f: &Finder, terms: &Terms, t: u32) -> Result<bool, NoMem
 
 fn product(f: &mut Finder, terms: &mut Terms, p: u32, s: u32, t: u32) -> Result<(), NoMemory> {
     let (a, b) = range_of(f, terms, s)?;
-    let (c, d) = if s == t { (a, b) } else { range_of(f, terms, t)? };
+    let (c, d) = if s == t {
+        (a, b)
+    } else {
+        range_of(f, terms, t)?
+    };
     for way in 0..4u32 {
         let low = way % 2 == 0;
         let other = way / 2 == 0;
@@ -110,15 +126,30 @@ fn near(x: Option<i128>, low: bool) -> Option<i128> {
 }
 
 // States that the product of two distances from bounds is at least 0.
-fn state_product(f: &mut Finder, terms: &mut Terms, p: u32, one: (u32, i128, bool), two: (u32, i128, bool)) -> Result<(), NoMemory> {
+fn state_product(
+    f: &mut Finder,
+    terms: &mut Terms,
+    p: u32,
+    one: (u32, i128, bool),
+    two: (u32, i128, bool),
+) -> Result<(), NoMemory> {
     let a = if one.2 { 1i128 } else { -1i128 };
     let b = if two.2 { 1i128 } else { -1i128 };
-    let c = if one.2 { one.1.checked_neg() } else { Some(one.1) };
-    let d = if two.2 { two.1.checked_neg() } else { Some(two.1) };
+    let c = if one.2 {
+        one.1.checked_neg()
+    } else {
+        Some(one.1)
+    };
+    let d = if two.2 {
+        two.1.checked_neg()
+    } else {
+        Some(two.1)
+    };
     let (Some(c), Some(d)) = (c, d) else {
         return Ok(());
     };
-    let (Some(ad), Some(cb), Some(cd)) = (a.checked_mul(d), c.checked_mul(b), c.checked_mul(d)) else {
+    let (Some(ad), Some(cb), Some(cd)) = (a.checked_mul(d), c.checked_mul(b), c.checked_mul(d))
+    else {
         return Ok(());
     };
     let x = number(terms, a.checked_mul(b).unwrap_or(0))?;
@@ -150,7 +181,14 @@ fn state_product(f: &mut Finder, terms: &mut Terms, p: u32, one: (u32, i128, boo
     let mut needs = refs(f.alloc);
     needs.push((i, true))?;
     needs.push((j, true))?;
-    step_one(f, terms, How::Prod((i, true), (j, true), p), needs, (stated, true), 0)?;
+    step_one(
+        f,
+        terms,
+        How::Prod((i, true), (j, true), p),
+        needs,
+        (stated, true),
+        0,
+    )?;
     Ok(())
 }
 
@@ -168,7 +206,10 @@ pub fn sign_split(f: &mut Finder, terms: &mut Terms) -> Result<Option<Ref>, NoMe
             for x in &[s, t] {
                 let zero = number(terms, 0)?;
                 let a = at_most(terms, zero, *x)?;
-                if is_atom(terms, a) && value_of_atom(f, a) == 0 && decided_by_bounds(f, terms, a)? == 0 {
+                if is_atom(terms, a)
+                    && value_of_atom(f, a) == 0
+                    && decided_by_bounds(f, terms, a)? == 0
+                {
                     return Ok(Some((a, true)));
                 }
             }

@@ -2,17 +2,29 @@
 
 use std::collections::HashMap;
 use wy_find_node::bounds::{atom_form, decided_by_bounds, is_refuted, linear_closing};
-use wy_find_node::congruence::{are_apart, are_equal, at32, clash, class_of, join_all, joining, rep_of, state_equal};
-use wy_find_node::looking::{Shape, at_most, is_atom, is_int, kind_like, kind_written, same_kind_asked, shape_of};
+use wy_find_node::congruence::{
+    are_apart, are_equal, at32, clash, class_of, join_all, joining, rep_of, state_equal,
+};
+use wy_find_node::looking::{
+    Shape, at_most, is_atom, is_int, kind_like, kind_written, same_kind_asked, shape_of,
+};
 use wy_find_node::plans::{at8, forced, open_atoms, plan_of, reasons, values};
 use wy_find_node::ratios::{Ratio, plus, times, whole};
 use wy_find_node::tableau::{NONE, Ref, term_var, var_at};
-use wy_find_node::trail::{End, Finder, How, Item, Proof, back, close, counts, here, knows, needs_but, refs, step_one, value_of_atom};
+use wy_find_node::trail::{
+    End, Finder, How, Item, Proof, back, close, counts, here, knows, needs_but, refs, step_one,
+    value_of_atom,
+};
 use wy_lin::term_form;
 use wy_term::{NoMemory, Terms};
 
 /// Adds a literal whose denial was closed by a proof.
-pub fn add_lemma(f: &mut Finder, terms: &mut Terms, proof: u32, lit: Ref) -> Result<bool, NoMemory> {
+pub fn add_lemma(
+    f: &mut Finder,
+    terms: &mut Terms,
+    proof: u32,
+    lit: Ref,
+) -> Result<bool, NoMemory> {
     let (needs, _) = needs_but(f, proof, (lit.0, !lit.1))?;
     step_one(f, terms, How::Lemma(proof), needs, lit, 0)
 }
@@ -45,7 +57,10 @@ pub fn lemma(f: &mut Finder, terms: &mut Terms, lit: Ref) -> Result<bool, NoMemo
 // ---- pending formulas
 
 /// A closing by a pending formula that is judged no, or else the literals that follow from pending ones; says whether some were added.
-pub fn units(f: &mut Finder, terms: &mut Terms) -> Result<(Option<(End, Vec<Ref>)>, bool), NoMemory> {
+pub fn units(
+    f: &mut Finder,
+    terms: &mut Terms,
+) -> Result<(Option<(End, Vec<Ref>)>, bool), NoMemory> {
     let mut any = false;
     let mut i = 0usize;
     for _ in 0..f.items.len() {
@@ -79,7 +94,12 @@ fn both_ways(f: &Finder, x: Item) -> Result<(End, Vec<Ref>), NoMemory> {
     Ok((End::Shut, needs))
 }
 
-fn unit(f: &mut Finder, terms: &mut Terms, x: Item, n: u32) -> Result<(Option<(End, Vec<Ref>)>, bool), NoMemory> {
+fn unit(
+    f: &mut Finder,
+    terms: &mut Terms,
+    x: Item,
+    n: u32,
+) -> Result<(Option<(End, Vec<Ref>)>, bool), NoMemory> {
     let wanted = if x.holds { 1 } else { 2 };
     let mut literals = refs(f.alloc);
     let mut needs = refs(f.alloc);
@@ -108,7 +128,13 @@ fn unit(f: &mut Finder, terms: &mut Terms, x: Item, n: u32) -> Result<(Option<(E
 }
 
 // A literal without which the pending formula is judged no.
-fn unit_literal(f: &mut Finder, terms: &mut Terms, x: Item, n: u32, l: Ref) -> Result<bool, NoMemory> {
+fn unit_literal(
+    f: &mut Finder,
+    terms: &mut Terms,
+    x: Item,
+    n: u32,
+    l: Ref,
+) -> Result<bool, NoMemory> {
     f.known.insert((l.0, !l.1), NONE)?;
     let mut needs = refs(f.alloc);
     if let Some(plan) = f.plan_list.get(n as usize) {
@@ -124,7 +150,11 @@ fn unit_literal(f: &mut Finder, terms: &mut Terms, x: Item, n: u32, l: Ref) -> R
     }
     needs.push((x.formula, x.holds))?;
     let p = u32::try_from(f.proofs.len()).unwrap_or(NONE);
-    f.proofs.push(Proof { steps: Vec::new(f.alloc), end: End::Shut, needs })?;
+    f.proofs.push(Proof {
+        steps: Vec::new(f.alloc),
+        end: End::Shut,
+        needs,
+    })?;
     let (rest, _) = needs_but(f, p, (l.0, !l.1))?;
     step_one(f, terms, How::Lemma(p), rest, l, x.age)
 }
@@ -184,11 +214,19 @@ fn decide_atom(f: &mut Finder, terms: &mut Terms, a: u32) -> Result<bool, NoMemo
             if are_equal(f, v, w) {
                 return lemma(f, terms, (a, true));
             }
-            if classes_apart(f, terms, v, w)? { lemma(f, terms, (a, false)) } else { Ok(false) }
+            if classes_apart(f, terms, v, w)? {
+                lemma(f, terms, (a, false))
+            } else {
+                Ok(false)
+            }
         }
         Shape::Kind(v) => {
             let k = kind_known(f, terms, a, v)?;
-            if k == 0 { Ok(false) } else { lemma(f, terms, (a, k == 1)) }
+            if k == 0 {
+                Ok(false)
+            } else {
+                lemma(f, terms, (a, k == 1))
+            }
         }
         _ => Ok(false),
     }
@@ -211,7 +249,9 @@ fn classes_apart(f: &mut Finder, terms: &mut Terms, v: u32, w: u32) -> Result<bo
         if let Some(x) = f.items.get(i).copied() {
             if x.literal && !x.holds {
                 if let Shape::Equal(a, b) = shape_of(terms, x.formula) {
-                    if (are_equal(f, a, v) && are_equal(f, b, w)) || (are_equal(f, a, w) && are_equal(f, b, v)) {
+                    if (are_equal(f, a, v) && are_equal(f, b, w))
+                        || (are_equal(f, a, w) && are_equal(f, b, v))
+                    {
                         return Ok(true);
                     }
                 }
@@ -226,7 +266,11 @@ pub fn kind_known(f: &mut Finder, terms: &mut Terms, test: u32, v: u32) -> Resul
     for w in &class_of(f, v)? {
         if kind_written(terms, *w) != 0 {
             let t = kind_like(terms, *w, test)?;
-            return Ok(if shape_of(terms, t) == Shape::And { 1 } else { 2 });
+            return Ok(if shape_of(terms, t) == Shape::And {
+                1
+            } else {
+                2
+            });
         }
     }
     for i in 0..f.items.len() {
@@ -336,7 +380,12 @@ pub fn bounds_to_classes(f: &mut Finder, terms: &mut Terms) -> Result<bool, NoMe
     Ok(any)
 }
 
-fn join_group(f: &mut Finder, terms: &mut Terms, list: &[(u32, u32)], tests: &mut u32) -> Result<bool, NoMemory> {
+fn join_group(
+    f: &mut Finder,
+    terms: &mut Terms,
+    list: &[(u32, u32)],
+    tests: &mut u32,
+) -> Result<bool, NoMemory> {
     let mut any = false;
     for x in 0..list.len() {
         for y in 0..x {
@@ -354,7 +403,12 @@ fn join_group(f: &mut Finder, terms: &mut Terms, list: &[(u32, u32)], tests: &mu
 }
 
 /// Adds bounds both ways of two Int terms, where bounds show them; says whether they do.
-pub fn equal_by_bounds(f: &mut Finder, terms: &mut Terms, s: u32, t: u32) -> Result<bool, NoMemory> {
+pub fn equal_by_bounds(
+    f: &mut Finder,
+    terms: &mut Terms,
+    s: u32,
+    t: u32,
+) -> Result<bool, NoMemory> {
     let a = at_most(terms, s, t)?;
     let b = at_most(terms, t, s)?;
     if !is_atom(terms, a) || !is_atom(terms, b) {

@@ -25,7 +25,13 @@ enum Task {
     Side(usize, Ref, u32, usize),
 }
 
-fn put(w: &mut Writer, terms: &Terms, formula: u32, holds: bool, alloc: Global) -> Result<(), NoMemory> {
+fn put(
+    w: &mut Writer,
+    terms: &Terms,
+    formula: u32,
+    holds: bool,
+    alloc: Global,
+) -> Result<(), NoMemory> {
     let mut todo = refs(alloc);
     todo.push((formula, holds))?;
     for _ in 0..1000000 {
@@ -70,7 +76,11 @@ fn number_of(w: &Writer, r: Ref) -> u32 {
 
 /// The steps of a proof of a condition.
 pub fn written(f: &Finder, terms: &Terms, cond: &Cond, proof: u32) -> Result<Vec<Step>, NoMemory> {
-    let mut w = Writer { literals: refs(f.alloc), numbers: HashMap::new(f.alloc), steps: Vec::new(f.alloc) };
+    let mut w = Writer {
+        literals: refs(f.alloc),
+        numbers: HashMap::new(f.alloc),
+        steps: Vec::new(f.alloc),
+    };
     for h in &cond.hyps {
         put(&mut w, terms, *h, true, f.alloc)?;
     }
@@ -101,7 +111,14 @@ fn steps_in(f: &Finder, p: u32) -> usize {
 }
 
 // Writes the rest of a proof up to its next split or its end.
-fn rest(f: &Finder, terms: &Terms, w: &mut Writer, tasks: &mut Vec<Task>, p: u32, left: usize) -> Result<(), NoMemory> {
+fn rest(
+    f: &Finder,
+    terms: &Terms,
+    w: &mut Writer,
+    tasks: &mut Vec<Task>,
+    p: u32,
+    left: usize,
+) -> Result<(), NoMemory> {
     let Some(proof) = f.proofs.get(p as usize) else {
         return Ok(());
     };
@@ -122,7 +139,15 @@ fn rest(f: &Finder, terms: &Terms, w: &mut Writer, tasks: &mut Vec<Task>, p: u32
 }
 
 // A split of which one side is a proof, and the other goes on.
-fn lemma(f: &Finder, terms: &Terms, w: &mut Writer, tasks: &mut Vec<Task>, d: &Deriv, go_on: (u32, usize), q: u32) -> Result<(), NoMemory> {
+fn lemma(
+    f: &Finder,
+    terms: &Terms,
+    w: &mut Writer,
+    tasks: &mut Vec<Task>,
+    d: &Deriv,
+    go_on: (u32, usize),
+    q: u32,
+) -> Result<(), NoMemory> {
     let Some(l) = d.adds.first().copied() else {
         return Ok(());
     };
@@ -187,7 +212,12 @@ fn write_step(w: &mut Writer, d: &Deriv, alloc: Global) -> Result<(), NoMemory> 
     Ok(())
 }
 
-fn write_end(f: &Finder, w: &mut Writer, tasks: &mut Vec<Task>, proof: &Proof) -> Result<(), NoMemory> {
+fn write_end(
+    f: &Finder,
+    w: &mut Writer,
+    tasks: &mut Vec<Task>,
+    proof: &Proof,
+) -> Result<(), NoMemory> {
     match &proof.end {
         End::Shut => w.steps.push(Step::Shut)?,
         End::Clash(a, b) => {
