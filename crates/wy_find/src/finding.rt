@@ -4,7 +4,7 @@ ghost use Rattle.wy_term.specs.Nodes.{tree_at};
 ghost use Rattle.wy_term.specs.Condition.{condition_of};
 ghost use Rattle.wy_facts.specs.Membership.{AreTypesBelow};
 ghost use Rattle.wy_cert.specs.Steps.{NamesItsTerms, steps_of};
-ghost use Rattle.wy_vc_laws.specs.wy_check_spec.valid.Validity.{IsValid};
+ghost use Rattle.wy_check.specs.wy_check_laws.wy_check_spec.valid.Validity.{IsValid};
 
 use crate::engine::solve;
 use crate::keeping::kept;
