@@ -2,7 +2,7 @@
 
 use wy_find_node::bounds::state_cut;
 use wy_find_node::ratios::{common, size_of};
-use wy_find_node::tableau::{Bound, NONE, Var, var_at};
+use wy_find_node::tableau::{Bound, Var, var_at};
 use wy_find_node::trail::Finder;
 use wy_term::{NoMemory, Terms};
 
@@ -41,12 +41,6 @@ pub fn cuts_round(f: &mut Finder, terms: &mut Terms) -> Result<bool, NoMemory> {
         let all = entries(f, r)?;
         if all.len() > 12 {
             continue;
-        }
-        let whole = divisor(f, &all, NONE);
-        if whole > 1 {
-            let one = cut_row(f, terms, &all, (NONE, 0), whole, true)?;
-            let two = cut_row(f, terms, &all, (NONE, 0), whole, false)?;
-            any = any || one || two;
         }
         for p in &all {
             if is_fixed(&var_at(&f.lin, p.0)) || stated > 12 {
