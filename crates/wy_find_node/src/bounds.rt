@@ -2,7 +2,9 @@
 
 use crate::looking::{Shape, add, at_most, denial, mul, number, shape_of};
 use crate::ratios::{common, is_below, size_of, whole};
-use crate::tableau::{AtomForm, Bound, Checked, NONE, Ref, bounded, check, slack_var, term_var, undo_to, var_at};
+use crate::tableau::{
+    AtomForm, Bound, Checked, NONE, Ref, bounded, check, slack_var, term_var, undo_to, var_at,
+};
 use crate::trail::{End, Finder, How, knows, refs, step_one};
 use wy_lin::{Form, form as literal_form};
 use wy_term::{NoMemory, Terms};
@@ -42,15 +44,27 @@ pub fn var_parts(f: &mut Finder, form: &Form) -> Result<Vec<(u32, i128)>, NoMemo
 }
 
 /// How a sum of variables and a number bounds.
-pub fn of_parts(f: &mut Finder, parts: &[(u32, i128)], constant: i128) -> Result<Option<AtomForm>, NoMemory> {
+pub fn of_parts(
+    f: &mut Finder,
+    parts: &[(u32, i128)],
+    constant: i128,
+) -> Result<Option<AtomForm>, NoMemory> {
     let mut g = 0;
     for p in parts {
         g = common(g, p.1);
     }
     let Some(first) = parts.first() else {
-        return Ok(Some(AtomForm { var: NONE, scale: 0, constant }));
+        return Ok(Some(AtomForm {
+            var: NONE,
+            scale: 0,
+            constant,
+        }));
     };
-    let scale = if first.1 < 0 { g.checked_neg().unwrap_or(0) } else { g };
+    let scale = if first.1 < 0 {
+        g.checked_neg().unwrap_or(0)
+    } else {
+        g
+    };
     let mut unit = Vec::new(f.alloc);
     for p in parts {
         match p.1.checked_div(scale) {
@@ -59,21 +73,36 @@ pub fn of_parts(f: &mut Finder, parts: &[(u32, i128)], constant: i128) -> Result
         }
     }
     match slack_var(f.alloc, &mut f.lin, &unit)? {
-        Some(var) => Ok(Some(AtomForm { var, scale, constant })),
+        Some(var) => Ok(Some(AtomForm {
+            var,
+            scale,
+            constant,
+        })),
         None => Ok(None),
     }
 }
 
 /// The bound that a literal is: whether it is a lower one, its value, and whether it is exact.
 pub fn literal_bound(a: &AtomForm, holds: bool) -> Option<(bool, i128, bool)> {
-    let (k, c) = if holds { (a.scale, a.constant) } else { (a.scale.checked_neg()?, a.constant.checked_neg()?.checked_sub(1)?) };
+    let (k, c) = if holds {
+        (a.scale, a.constant)
+    } else {
+        (
+            a.scale.checked_neg()?,
+            a.constant.checked_neg()?.checked_sub(1)?,
+        )
+    };
     let size = size_of(k)?;
     if size == 0 {
         return None;
     }
     let down = c.checked_div_euclid(size)?;
     let exact = c.checked_rem_euclid(size)? == 0;
-    if k > 0 { Some((true, down.checked_neg()?, exact)) } else { Some((false, down, exact)) }
+    if k > 0 {
+        Some((true, down.checked_neg()?, exact))
+    } else {
+        Some((false, down, exact))
+    }
 }
 
 /// Takes the literals of the trail that are new to the tableau.
@@ -93,7 +122,11 @@ pub fn feed(f: &mut Finder, terms: &mut Terms) -> Result<Option<(End, Vec<Ref>)>
     Ok(None)
 }
 
-fn feed_one(f: &mut Finder, terms: &mut Terms, r: Ref) -> Result<Option<(End, Vec<Ref>)>, NoMemory> {
+fn feed_one(
+    f: &mut Finder,
+    terms: &mut Terms,
+    r: Ref,
+) -> Result<Option<(End, Vec<Ref>)>, NoMemory> {
     let Some(a) = atom_form(f, terms, r.0)? else {
         return Ok(None);
     };
@@ -103,7 +136,15 @@ fn feed_one(f: &mut Finder, terms: &mut Terms, r: Ref) -> Result<Option<(End, Ve
             return Ok(None);
         }
         let mut one = Vec::new(f.alloc);
-        one.push((1, Bound { there: true, value: 0, reason: r, scale: 1 }))?;
+        one.push((
+            1,
+            Bound {
+                there: true,
+                value: 0,
+                reason: r,
+                scale: 1,
+            },
+        ))?;
         return refuted(f, &one);
     }
     let Some((low, value, exact)) = literal_bound(&a, r.1) else {
@@ -114,7 +155,12 @@ fn feed_one(f: &mut Finder, terms: &mut Terms, r: Ref) -> Result<Option<(End, Ve
         cut(f, terms, r, size)?;
         return Ok(None);
     }
-    let bound = Bound { there: true, value, reason: r, scale: size };
+    let bound = Bound {
+        there: true,
+        value,
+        reason: r,
+        scale: size,
+    };
     match bounded(f.alloc, &mut f.lin, a.var, low, bound)? {
         Checked::Refuted(all) => refuted(f, &all),
         _ => Ok(None),
@@ -130,7 +176,12 @@ fn cut(f: &mut Finder, terms: &mut Terms, r: Ref, size: i128) -> Result<(), NoMe
 }
 
 /// States a sum of literals' forms divided, its number rounded down; says whether this is new.
-pub fn state_cut(f: &mut Finder, terms: &mut Terms, pairs: &[(i128, Ref)], size: i128) -> Result<bool, NoMemory> {
+pub fn state_cut(
+    f: &mut Finder,
+    terms: &mut Terms,
+    pairs: &[(i128, Ref)],
+    size: i128,
+) -> Result<bool, NoMemory> {
     let Some((parts, constant)) = sum_of_pairs(f, terms, pairs)? else {
         return Ok(false);
     };
@@ -163,7 +214,11 @@ pub fn state_cut(f: &mut Finder, terms: &mut Terms, pairs: &[(i128, Ref)], size:
 }
 
 // The sum of literals' forms, each so many times: parts by first appearance.
-fn sum_of_pairs(f: &Finder, terms: &mut Terms, pairs: &[(i128, Ref)]) -> Result<Option<(Vec<(i128, u32)>, i128)>, NoMemory> {
+fn sum_of_pairs(
+    f: &Finder,
+    terms: &mut Terms,
+    pairs: &[(i128, Ref)],
+) -> Result<Option<(Vec<(i128, u32)>, i128)>, NoMemory> {
     let mut parts: Vec<(i128, u32)> = Vec::new(f.alloc);
     let mut constant = 0i128;
     for p in pairs {
@@ -258,7 +313,10 @@ fn push_pair(pairs: &mut Vec<(i128, Ref)>, m: i128, r: Ref) -> Result<(), NoMemo
 }
 
 /// A closing of the node by its bounds, if they have no point in common.
-pub fn linear_closing(f: &mut Finder, terms: &mut Terms) -> Result<Option<(End, Vec<Ref>)>, NoMemory> {
+pub fn linear_closing(
+    f: &mut Finder,
+    terms: &mut Terms,
+) -> Result<Option<(End, Vec<Ref>)>, NoMemory> {
     if let Some(done) = feed(f, terms)? {
         return Ok(Some(done));
     }
@@ -274,7 +332,12 @@ pub fn is_refuted(f: &mut Finder, a: &AtomForm, holds: bool) -> Result<bool, NoM
         return Ok(false);
     };
     let n = f.lin.trail.len();
-    let bound = Bound { there: true, value, reason: (NONE, true), scale: 1 };
+    let bound = Bound {
+        there: true,
+        value,
+        reason: (NONE, true),
+        scale: 1,
+    };
     let mut answer = false;
     if let Checked::Refuted(_) = bounded(f.alloc, &mut f.lin, a.var, low, bound)? {
         answer = true;
@@ -299,7 +362,11 @@ pub fn decided_by_bounds(f: &mut Finder, terms: &Terms, atom: u32) -> Result<u8,
     let Some((low, value, _)) = literal_bound(&a, true) else {
         return Ok(0);
     };
-    let holds = if low { is_below(x.at, whole(value)) == Some(false) } else { is_below(whole(value), x.at) == Some(false) };
+    let holds = if low {
+        is_below(x.at, whole(value)) == Some(false)
+    } else {
+        is_below(whole(value), x.at) == Some(false)
+    };
     if holds {
         if is_refuted(f, &a, false)? {
             return Ok(1);

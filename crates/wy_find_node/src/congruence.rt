@@ -1,6 +1,9 @@
 //! Classes of equal terms, and the ways through them.
 
-use crate::looking::{Shape, at_most, equal, head, is_atom, is_int, kids, kind_like, kind_written, same_kind_asked, shape_of};
+use crate::looking::{
+    Shape, at_most, equal, head, is_atom, is_int, kids, kind_like, kind_written, same_kind_asked,
+    shape_of,
+};
 use crate::tableau::{NONE, Ref};
 use crate::trail::{End, Finder, How, Item, knows, refs, step, step_one};
 use std::alloc::Global;
@@ -150,7 +153,11 @@ fn join_literal(f: &mut Finder, terms: &mut Terms, atom: u32) -> Result<(), NoMe
         Shape::Equal(v, w) => join(f, v, w, Why::Literal(atom)),
         Shape::AtMost(s, t) => {
             let other = at_most(terms, t, s)?;
-            if knows(f, other, true) { join(f, s, t, Why::Bounds(atom, other)) } else { Ok(()) }
+            if knows(f, other, true) {
+                join(f, s, t, Why::Bounds(atom, other))
+            } else {
+                Ok(())
+            }
         }
         _ => Ok(()),
     }
@@ -248,7 +255,12 @@ fn signature(f: &mut Finder, terms: &Terms, t: u32, h: u32) -> Result<u32, NoMem
     let mut acc = h;
     match shape_of(terms, t) {
         Shape::Num(a) | Shape::Len(a) | Shape::Int(a) | Shape::Field(a) => with_part(f, acc, a),
-        Shape::Get(a, b) | Shape::Repeat(a, b) | Shape::Mul(a, b) | Shape::Div(a, b) | Shape::Mod(a, b) | Shape::SetField(a, b) => {
+        Shape::Get(a, b)
+        | Shape::Repeat(a, b)
+        | Shape::Mul(a, b)
+        | Shape::Div(a, b)
+        | Shape::Mod(a, b)
+        | Shape::SetField(a, b) => {
             acc = with_part(f, acc, a)?;
             with_part(f, acc, b)
         }
@@ -269,7 +281,9 @@ fn with_part(f: &mut Finder, acc: u32, part: u32) -> Result<u32, NoMemory> {
     if let Some(n) = f.cls.pairs.get(&(acc, r)) {
         return Ok(*n);
     }
-    let n = u32::try_from(f.cls.pairs.len()).unwrap_or(0).saturating_add(1000000);
+    let n = u32::try_from(f.cls.pairs.len())
+        .unwrap_or(0)
+        .saturating_add(1000000);
     f.cls.pairs.insert((acc, r), n)?;
     Ok(n)
 }
@@ -314,7 +328,12 @@ fn way(f: &Finder, s: u32, t: u32) -> Result<(Vec<u32>, Vec<Why>), NoMemory> {
 }
 
 /// The literals that join two terms directly, if they do.
-pub fn joining(f: &Finder, terms: &mut Terms, s: u32, t: u32) -> Result<Option<Vec<Ref>>, NoMemory> {
+pub fn joining(
+    f: &Finder,
+    terms: &mut Terms,
+    s: u32,
+    t: u32,
+) -> Result<Option<Vec<Ref>>, NoMemory> {
     let mut all = refs(f.alloc);
     if s == t {
         return Ok(Some(all));
@@ -358,7 +377,13 @@ fn argument_pairs(f: &Finder, terms: &Terms, s: u32, t: u32) -> Result<Vec<(u32,
 }
 
 // What a chain along a way needs; the pairs that have to be joined before are put on the list.
-fn chain_needs(f: &Finder, terms: &mut Terms, all: &[u32], whys: &[Why], todo: &mut Vec<(u32, u32)>) -> Result<Vec<Ref>, NoMemory> {
+fn chain_needs(
+    f: &Finder,
+    terms: &mut Terms,
+    all: &[u32],
+    whys: &[Why],
+    todo: &mut Vec<(u32, u32)>,
+) -> Result<Vec<Ref>, NoMemory> {
     let mut needs = refs(f.alloc);
     for (i, why) in whys.iter().enumerate() {
         match why {
@@ -408,7 +433,14 @@ pub fn state_equal(f: &mut Finder, terms: &mut Terms, s: u32, t: u32) -> Result<
     Ok(())
 }
 
-fn chain(f: &mut Finder, terms: &mut Terms, all: Vec<u32>, needs: Vec<Ref>, a: u32, b: u32) -> Result<(), NoMemory> {
+fn chain(
+    f: &mut Finder,
+    terms: &mut Terms,
+    all: Vec<u32>,
+    needs: Vec<Ref>,
+    a: u32,
+    b: u32,
+) -> Result<(), NoMemory> {
     let mut adds = refs(f.alloc);
     if is_int(terms, a) {
         adds.push((at_most(terms, a, b)?, true))?;
@@ -490,12 +522,21 @@ fn apart_in(f: &mut Finder, terms: &Terms, i: usize) -> Result<Option<(u32, u32)
     Ok(None)
 }
 
-fn apart(f: &mut Finder, terms: &mut Terms, s: u32, t: u32) -> Result<Option<(End, Vec<Ref>)>, NoMemory> {
+fn apart(
+    f: &mut Finder,
+    terms: &mut Terms,
+    s: u32,
+    t: u32,
+) -> Result<Option<(End, Vec<Ref>)>, NoMemory> {
     state_equal(f, terms, s, t)?;
     let atom = equal(terms, s, t)?;
     let mut needs = refs(f.alloc);
     if is_atom(terms, atom) {
-        let there = if knows(f, atom, true) { atom } else { equal(terms, t, s)? };
+        let there = if knows(f, atom, true) {
+            atom
+        } else {
+            equal(terms, t, s)?
+        };
         needs.push((there, true))?;
         return Ok(Some((End::Clash((there, true), None), needs)));
     }
@@ -503,7 +544,12 @@ fn apart(f: &mut Finder, terms: &mut Terms, s: u32, t: u32) -> Result<Option<(En
     Ok(Some((End::Shut, needs)))
 }
 
-fn literal_clash(f: &mut Finder, terms: &mut Terms, x: Item, kinds: &mut HashMap<u32, Vec<Item>>) -> Result<Option<(End, Vec<Ref>)>, NoMemory> {
+fn literal_clash(
+    f: &mut Finder,
+    terms: &mut Terms,
+    x: Item,
+    kinds: &mut HashMap<u32, Vec<Item>>,
+) -> Result<Option<(End, Vec<Ref>)>, NoMemory> {
     match shape_of(terms, x.formula) {
         Shape::Equal(v, w) => {
             if x.holds || !are_equal(f, v, w) {
@@ -518,7 +564,13 @@ fn literal_clash(f: &mut Finder, terms: &mut Terms, x: Item, kinds: &mut HashMap
 }
 
 // An equation is denied that stands, one way or the other.
-fn denied(f: &mut Finder, terms: &mut Terms, atom: u32, v: u32, w: u32) -> Result<Option<(End, Vec<Ref>)>, NoMemory> {
+fn denied(
+    f: &mut Finder,
+    terms: &mut Terms,
+    atom: u32,
+    v: u32,
+    w: u32,
+) -> Result<Option<(End, Vec<Ref>)>, NoMemory> {
     let mut needs = refs(f.alloc);
     needs.push((atom, false))?;
     if !knows(f, atom, true) {
@@ -535,7 +587,13 @@ fn denied(f: &mut Finder, terms: &mut Terms, atom: u32, v: u32, w: u32) -> Resul
 }
 
 // A kind's literal against what else stands in the class of its term.
-fn kind_clash(f: &mut Finder, terms: &mut Terms, x: Item, v: u32, kinds: &mut HashMap<u32, Vec<Item>>) -> Result<Option<(End, Vec<Ref>)>, NoMemory> {
+fn kind_clash(
+    f: &mut Finder,
+    terms: &mut Terms,
+    x: Item,
+    v: u32,
+    kinds: &mut HashMap<u32, Vec<Item>>,
+) -> Result<Option<(End, Vec<Ref>)>, NoMemory> {
     for w in &class_of(f, v)? {
         if *w != v && kind_written(terms, *w) != 0 {
             let test = kind_like(terms, *w, x.formula)?;
@@ -562,10 +620,22 @@ fn kind_clash(f: &mut Finder, terms: &mut Terms, x: Item, v: u32, kinds: &mut Ha
         return Ok(None);
     };
     state_equal(f, terms, v, w)?;
-    two_literals(f, terms, (x.formula, x.holds), v, w, Some((y.formula, y.holds)))
+    two_literals(
+        f,
+        terms,
+        (x.formula, x.holds),
+        v,
+        w,
+        Some((y.formula, y.holds)),
+    )
 }
 
-fn note_kind(alloc: Global, kinds: &mut HashMap<u32, Vec<Item>>, rep: u32, x: Item) -> Result<Option<(End, Vec<Ref>)>, NoMemory> {
+fn note_kind(
+    alloc: Global,
+    kinds: &mut HashMap<u32, Vec<Item>>,
+    rep: u32,
+    x: Item,
+) -> Result<Option<(End, Vec<Ref>)>, NoMemory> {
     if let Some(list) = kinds.get_mut(&rep) {
         list.push(x)?;
         return Ok(None);
@@ -578,11 +648,22 @@ fn note_kind(alloc: Global, kinds: &mut HashMap<u32, Vec<Item>>, rep: u32, x: It
 
 fn kinds_clash(terms: &Terms, x: Item, y: Item) -> bool {
     let same = same_kind_asked(terms, x.formula, y.formula);
-    if x.holds && y.holds { !same } else { same && x.holds != y.holds }
+    if x.holds && y.holds {
+        !same
+    } else {
+        same && x.holds != y.holds
+    }
 }
 
 // The clash of a kind's literal with another one, or with the equation of two terms.
-fn two_literals(f: &mut Finder, terms: &mut Terms, x: Ref, v: u32, w: u32, other: Option<Ref>) -> Result<Option<(End, Vec<Ref>)>, NoMemory> {
+fn two_literals(
+    f: &mut Finder,
+    terms: &mut Terms,
+    x: Ref,
+    v: u32,
+    w: u32,
+    other: Option<Ref>,
+) -> Result<Option<(End, Vec<Ref>)>, NoMemory> {
     let mut needs = refs(f.alloc);
     needs.push(x)?;
     let mut equation = (x.0, x.1);

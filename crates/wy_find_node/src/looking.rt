@@ -9,10 +9,38 @@ use wy_term_subst::Name;
 /// A term's symbol and parts, without names and lists.
 #[derive(Clone, Copy, Debug, PartialEq, Eq)]
 pub enum Shape {
-    Number(i128), IntName, Add(u32, u32), Sub(u32, u32), Neg(u32), Mul(u32, u32), Div(u32, u32), Mod(u32, u32), Num(u32), Len(u32),
-    ValName, Null, Bool(bool), Int(u32), Truth(u32), Array, Repeat(u32, u32), Update(u32, u32, u32), Get(u32, u32), Record,
-    Field(u32), SetField(u32, u32), AtMost(u32, u32), Equal(u32, u32), Kind(u32), In(u32, u32), All(u32, u32, u32), Some(u32, u32, u32),
-    Not(u32), And, Or, Nothing,
+    Number(i128),
+    IntName,
+    Add(u32, u32),
+    Sub(u32, u32),
+    Neg(u32),
+    Mul(u32, u32),
+    Div(u32, u32),
+    Mod(u32, u32),
+    Num(u32),
+    Len(u32),
+    ValName,
+    Null,
+    Bool(bool),
+    Int(u32),
+    Truth(u32),
+    Array,
+    Repeat(u32, u32),
+    Update(u32, u32, u32),
+    Get(u32, u32),
+    Record,
+    Field(u32),
+    SetField(u32, u32),
+    AtMost(u32, u32),
+    Equal(u32, u32),
+    Kind(u32),
+    In(u32, u32),
+    All(u32, u32, u32),
+    Some(u32, u32, u32),
+    Not(u32),
+    And,
+    Or,
+    Nothing,
 }
 
 /// The shape of a term; `Nothing` where there is no such term.
@@ -79,9 +107,22 @@ pub fn kids(terms: &Terms, t: u32) -> Result<Vec<u32>, NoMemory> {
 
 fn few_kids(terms: &Terms, t: u32, all: &mut Vec<u32>) -> Result<(), NoMemory> {
     match shape_of(terms, t) {
-        Shape::Add(a, b) | Shape::Sub(a, b) | Shape::Mul(a, b) | Shape::Div(a, b) | Shape::Mod(a, b) => two(all, a, b),
-        Shape::Repeat(a, b) | Shape::Get(a, b) | Shape::AtMost(a, b) | Shape::Equal(a, b) | Shape::SetField(a, b) => two(all, a, b),
-        Shape::Neg(a) | Shape::Num(a) | Shape::Len(a) | Shape::Int(a) | Shape::Truth(a) | Shape::Field(a) => one(all, a),
+        Shape::Add(a, b)
+        | Shape::Sub(a, b)
+        | Shape::Mul(a, b)
+        | Shape::Div(a, b)
+        | Shape::Mod(a, b) => two(all, a, b),
+        Shape::Repeat(a, b)
+        | Shape::Get(a, b)
+        | Shape::AtMost(a, b)
+        | Shape::Equal(a, b)
+        | Shape::SetField(a, b) => two(all, a, b),
+        Shape::Neg(a)
+        | Shape::Num(a)
+        | Shape::Len(a)
+        | Shape::Int(a)
+        | Shape::Truth(a)
+        | Shape::Field(a) => one(all, a),
         Shape::Kind(a) | Shape::In(a, _) | Shape::Not(a) => one(all, a),
         Shape::Update(a, b, c) | Shape::All(a, b, c) | Shape::Some(a, b, c) => {
             two(all, a, b)?;
@@ -110,47 +151,83 @@ fn there(terms: &Terms, t: u32) -> bool
 
 /// `s <= t`
 pub fn at_most(terms: &mut Terms, s: u32, t: u32) -> Result<u32, NoMemory> {
-    if there(terms, s) && there(terms, t) { terms.intern(Node::AtMost(s, t)) } else { Err(NoMemory) }
+    if there(terms, s) && there(terms, t) {
+        terms.intern(Node::AtMost(s, t))
+    } else {
+        Err(NoMemory)
+    }
 }
 
 /// `v = w`
 pub fn equal(terms: &mut Terms, s: u32, t: u32) -> Result<u32, NoMemory> {
-    if there(terms, s) && there(terms, t) { terms.intern(Node::Equal(s, t)) } else { Err(NoMemory) }
+    if there(terms, s) && there(terms, t) {
+        terms.intern(Node::Equal(s, t))
+    } else {
+        Err(NoMemory)
+    }
 }
 
 /// `get(v, s)`
 pub fn get(terms: &mut Terms, s: u32, t: u32) -> Result<u32, NoMemory> {
-    if there(terms, s) && there(terms, t) { terms.intern(Node::Get(s, t)) } else { Err(NoMemory) }
+    if there(terms, s) && there(terms, t) {
+        terms.intern(Node::Get(s, t))
+    } else {
+        Err(NoMemory)
+    }
 }
 
 /// `add(s, t)`
 pub fn add(terms: &mut Terms, s: u32, t: u32) -> Result<u32, NoMemory> {
-    if there(terms, s) && there(terms, t) { terms.intern(Node::Add(s, t)) } else { Err(NoMemory) }
+    if there(terms, s) && there(terms, t) {
+        terms.intern(Node::Add(s, t))
+    } else {
+        Err(NoMemory)
+    }
 }
 
 /// `sub(s, t)`
 pub fn sub(terms: &mut Terms, s: u32, t: u32) -> Result<u32, NoMemory> {
-    if there(terms, s) && there(terms, t) { terms.intern(Node::Sub(s, t)) } else { Err(NoMemory) }
+    if there(terms, s) && there(terms, t) {
+        terms.intern(Node::Sub(s, t))
+    } else {
+        Err(NoMemory)
+    }
 }
 
 /// `mul(s, t)`
 pub fn mul(terms: &mut Terms, s: u32, t: u32) -> Result<u32, NoMemory> {
-    if there(terms, s) && there(terms, t) { terms.intern(Node::Mul(s, t)) } else { Err(NoMemory) }
+    if there(terms, s) && there(terms, t) {
+        terms.intern(Node::Mul(s, t))
+    } else {
+        Err(NoMemory)
+    }
 }
 
 /// `upd(v, s, w)`
 pub fn update(terms: &mut Terms, a: u32, i: u32, w: u32) -> Result<u32, NoMemory> {
-    if there(terms, a) && there(terms, i) && there(terms, w) { terms.intern(Node::Update(a, i, w)) } else { Err(NoMemory) }
+    if there(terms, a) && there(terms, i) && there(terms, w) {
+        terms.intern(Node::Update(a, i, w))
+    } else {
+        Err(NoMemory)
+    }
 }
 
 /// `len(v)`
 pub fn len(terms: &mut Terms, v: u32) -> Result<u32, NoMemory> {
-    if there(terms, v) { terms.intern(Node::Len(v)) } else { Err(NoMemory) }
+    if there(terms, v) {
+        terms.intern(Node::Len(v))
+    } else {
+        Err(NoMemory)
+    }
 }
 
 /// `num(v)`
 pub fn num(terms: &mut Terms, v: u32) -> Result<u32, NoMemory> {
-    if there(terms, v) { terms.intern(Node::Num(v)) } else { Err(NoMemory) }
+    if there(terms, v) {
+        terms.intern(Node::Num(v))
+    } else {
+        Err(NoMemory)
+    }
 }
 
 /// `null`
@@ -205,7 +282,11 @@ pub fn number(terms: &mut Terms, z: i128) -> Result<u32, NoMemory> {
 
 /// `not F`
 pub fn denial(terms: &mut Terms, f: u32) -> Result<u32, NoMemory> {
-    if there(terms, f) { terms.intern(Node::Not(f)) } else { Err(NoMemory) }
+    if there(terms, f) {
+        terms.intern(Node::Not(f))
+    } else {
+        Err(NoMemory)
+    }
 }
 
 /// `or(f; g; h)`
@@ -220,7 +301,12 @@ pub fn one_of_three(terms: &mut Terms, f: u32, g: u32, h: u32) -> Result<u32, No
 /// Whether a term is an Int term.
 pub fn is_int(terms: &Terms, t: u32) -> bool {
     match shape_of(terms, t) {
-        Shape::Number(_) | Shape::IntName | Shape::Add(_, _) | Shape::Sub(_, _) | Shape::Neg(_) | Shape::Mul(_, _) => true,
+        Shape::Number(_)
+        | Shape::IntName
+        | Shape::Add(_, _)
+        | Shape::Sub(_, _)
+        | Shape::Neg(_)
+        | Shape::Mul(_, _) => true,
         Shape::Div(_, _) | Shape::Mod(_, _) | Shape::Num(_) | Shape::Len(_) => true,
         _ => false,
     }
@@ -229,8 +315,18 @@ pub fn is_int(terms: &Terms, t: u32) -> bool {
 /// Whether a term is a Val term.
 pub fn is_val(terms: &Terms, t: u32) -> bool {
     match shape_of(terms, t) {
-        Shape::ValName | Shape::Null | Shape::Bool(_) | Shape::Int(_) | Shape::Truth(_) | Shape::Array | Shape::Repeat(_, _) => true,
-        Shape::Update(_, _, _) | Shape::Get(_, _) | Shape::Record | Shape::Field(_) | Shape::SetField(_, _) => true,
+        Shape::ValName
+        | Shape::Null
+        | Shape::Bool(_)
+        | Shape::Int(_)
+        | Shape::Truth(_)
+        | Shape::Array
+        | Shape::Repeat(_, _) => true,
+        Shape::Update(_, _, _)
+        | Shape::Get(_, _)
+        | Shape::Record
+        | Shape::Field(_)
+        | Shape::SetField(_, _) => true,
         _ => false,
     }
 }
@@ -238,7 +334,12 @@ pub fn is_val(terms: &Terms, t: u32) -> bool {
 /// Whether a formula is an atom.
 pub fn is_atom(terms: &Terms, t: u32) -> bool {
     match shape_of(terms, t) {
-        Shape::AtMost(_, _) | Shape::Equal(_, _) | Shape::Kind(_) | Shape::In(_, _) | Shape::All(_, _, _) | Shape::Some(_, _, _) => true,
+        Shape::AtMost(_, _)
+        | Shape::Equal(_, _)
+        | Shape::Kind(_)
+        | Shape::In(_, _)
+        | Shape::All(_, _, _)
+        | Shape::Some(_, _, _) => true,
         _ => false,
     }
 }
@@ -272,7 +373,13 @@ pub fn field_like(terms: &mut Terms, v: u32, like: u32) -> Result<u32, NoMemory>
 }
 
 /// Another field of a record that is written out than the one that is read, set to null in a datum; none where there is no other.
-pub fn set_other(terms: &mut Terms, record: u32, read: u32, v: u32, w: u32) -> Result<Option<u32>, NoMemory> {
+pub fn set_other(
+    terms: &mut Terms,
+    record: u32,
+    read: u32,
+    v: u32,
+    w: u32,
+) -> Result<Option<u32>, NoMemory> {
     if !there(terms, v) || !there(terms, w) {
         return Ok(None);
     }

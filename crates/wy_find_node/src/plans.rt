@@ -45,7 +45,10 @@ fn sort_of(terms: &Terms, t: u32) -> u8 {
 }
 
 fn made(alloc: Global, terms: &Terms, formula: u32) -> Result<Plan, NoMemory> {
-    let mut plan = Plan { nodes: Vec::new(alloc), kids: Vec::new(alloc) };
+    let mut plan = Plan {
+        nodes: Vec::new(alloc),
+        kids: Vec::new(alloc),
+    };
     let mut place: HashMap<u32, u32> = HashMap::new(alloc);
     let mut todo = Vec::new(alloc);
     todo.push(formula)?;
@@ -58,7 +61,11 @@ fn made(alloc: Global, terms: &Terms, formula: u32) -> Result<Plan, NoMemory> {
             continue;
         }
         let sort = sort_of(terms, t);
-        let parts = if sort == 0 { Vec::new(alloc) } else { kids(terms, t)? };
+        let parts = if sort == 0 {
+            Vec::new(alloc)
+        } else {
+            kids(terms, t)?
+        };
         let mut missing = false;
         for p in &parts {
             if !place.contains_key(p) {
@@ -72,7 +79,12 @@ fn made(alloc: Global, terms: &Terms, formula: u32) -> Result<Plan, NoMemory> {
                 plan.kids.push(place.get(p).copied().unwrap_or(0))?;
             }
             place.insert(t, u32::try_from(plan.nodes.len()).unwrap_or(0))?;
-            plan.nodes.push(PlanNode { formula: t, sort, from, to: plan.kids.len() })?;
+            plan.nodes.push(PlanNode {
+                formula: t,
+                sort,
+                from,
+                to: plan.kids.len(),
+            })?;
         }
     }
     Ok(plan)
@@ -125,7 +137,11 @@ fn joined(plan: &Plan, n: &PlanNode, values: &[u8]) -> u8 {
 pub fn values(f: &Finder, plan: &Plan) -> Result<Vec<u8>, NoMemory> {
     let mut all = Vec::new(f.alloc);
     for n in &plan.nodes {
-        let v = if n.sort == 0 { value_of_atom(f, n.formula) } else { joined(plan, n, &all) };
+        let v = if n.sort == 0 {
+            value_of_atom(f, n.formula)
+        } else {
+            joined(plan, n, &all)
+        };
         all.push(v)?;
     }
     Ok(all)

@@ -39,7 +39,10 @@ pub fn reduced_to(n: i128, d: i128) -> Option<Ratio> {
     let a = n.checked_div(g)?;
     let b = d.checked_div(g)?;
     if b < 0 {
-        return Some(Ratio { n: a.checked_neg()?, d: b.checked_neg()? });
+        return Some(Ratio {
+            n: a.checked_neg()?,
+            d: b.checked_neg()?,
+        });
     }
     Some(Ratio { n: a, d: b })
 }
@@ -53,7 +56,13 @@ pub fn plus(x: Ratio, y: Ratio) -> Option<Ratio> {
 }
 
 pub fn minus(x: Ratio, y: Ratio) -> Option<Ratio> {
-    plus(x, Ratio { n: y.n.checked_neg()?, d: y.d })
+    plus(
+        x,
+        Ratio {
+            n: y.n.checked_neg()?,
+            d: y.d,
+        },
+    )
 }
 
 /// x * n / d

@@ -76,7 +76,12 @@ pub enum Checked {
 pub const NONE: u32 = 4294967295;
 
 pub fn no_bound() -> Bound {
-    Bound { there: false, value: 0, reason: (0, true), scale: 1 }
+    Bound {
+        there: false,
+        value: 0,
+        reason: (0, true),
+        scale: 1,
+    }
 }
 
 pub fn no_linear(alloc: Global) -> Linear {
@@ -95,7 +100,12 @@ pub fn no_linear(alloc: Global) -> Linear {
 }
 
 fn no_var() -> Var {
-    Var { low: no_bound(), high: no_bound(), at: whole(0), row: NONE }
+    Var {
+        low: no_bound(),
+        high: no_bound(),
+        at: whole(0),
+        row: NONE,
+    }
 }
 
 pub fn var_at(lin: &Linear, v: u32) -> Var {
@@ -154,7 +164,13 @@ pub fn coefficient(parts: &[(u32, i128)], v: u32) -> i128 {
 }
 
 /// x * first + y * second, by rising variables; none where a number is too large.
-pub fn mixed(alloc: Global, x: i128, first: &[(u32, i128)], y: i128, second: &[(u32, i128)]) -> Result<Option<Vec<(u32, i128)>>, NoMemory> {
+pub fn mixed(
+    alloc: Global,
+    x: i128,
+    first: &[(u32, i128)],
+    y: i128,
+    second: &[(u32, i128)],
+) -> Result<Option<Vec<(u32, i128)>>, NoMemory> {
     let mut made = Vec::new(alloc);
     let mut i = 0usize;
     let mut j = 0usize;
@@ -199,7 +215,12 @@ fn sum_of(a: Option<i128>, b: Option<i128>) -> Option<i128> {
 }
 
 // A row in lowest terms.
-fn reduced(alloc: Global, basic: u32, den: i128, parts: &[(u32, i128)]) -> Result<Option<Row>, NoMemory> {
+fn reduced(
+    alloc: Global,
+    basic: u32,
+    den: i128,
+    parts: &[(u32, i128)],
+) -> Result<Option<Row>, NoMemory> {
     let mut g = den;
     for p in parts {
         g = common(g, p.1);
@@ -220,7 +241,11 @@ fn reduced(alloc: Global, basic: u32, den: i128, parts: &[(u32, i128)]) -> Resul
     let Some(d) = den.checked_div(g) else {
         return Ok(None);
     };
-    Ok(Some(Row { basic, den: d, parts: made }))
+    Ok(Some(Row {
+        basic,
+        den: d,
+        parts: made,
+    }))
 }
 
 // The value of a row's sum over its denominator.
@@ -233,13 +258,24 @@ fn row_value(lin: &Linear, row: &Row) -> Option<Ratio> {
 }
 
 // The row of a sum of variables, in which basic ones are replaced by their rows.
-fn row_over(alloc: Global, lin: &Linear, basic: u32, parts: &[(u32, i128)]) -> Result<Option<Row>, NoMemory> {
+fn row_over(
+    alloc: Global,
+    lin: &Linear,
+    basic: u32,
+    parts: &[(u32, i128)],
+) -> Result<Option<Row>, NoMemory> {
     let mut den = 1i128;
     let mut sum = Vec::new(alloc);
     for p in parts {
         let r = var_at(lin, p.0).row;
         let made = match lin.rows.get(r as usize) {
-            None => mixed(alloc, 1, &sum, den.checked_mul(p.1).unwrap_or(0), &[(p.0, 1)])?,
+            None => mixed(
+                alloc,
+                1,
+                &sum,
+                den.checked_mul(p.1).unwrap_or(0),
+                &[(p.0, 1)],
+            )?,
             Some(row) => {
                 let (Some(m), Some(d)) = (p.1.checked_mul(den), den.checked_mul(row.den)) else {
                     return Ok(None);
@@ -274,7 +310,11 @@ fn lone(parts: &[(u32, i128)]) -> Option<u32> {
 
 /// The variable that stands for a sum of variables, by rising ones, of which the first has a coefficient above 0 and that have no
 /// common divisor.
-pub fn slack_var(alloc: Global, lin: &mut Linear, parts: &[(u32, i128)]) -> Result<Option<u32>, NoMemory> {
+pub fn slack_var(
+    alloc: Global,
+    lin: &mut Linear,
+    parts: &[(u32, i128)],
+) -> Result<Option<u32>, NoMemory> {
     if let Some(v) = lone(parts) {
         return Ok(Some(v));
     }
@@ -290,7 +330,12 @@ pub fn slack_var(alloc: Global, lin: &mut Linear, parts: &[(u32, i128)]) -> Resu
         return Ok(None);
     };
     let r = u32::try_from(lin.rows.len()).unwrap_or(NONE);
-    lin.vars.push(Var { low: no_bound(), high: no_bound(), at, row: r })?;
+    lin.vars.push(Var {
+        low: no_bound(),
+        high: no_bound(),
+        at,
+        row: r,
+    })?;
     lin.terms_of.push(NONE)?;
     lin.rows.push(row)?;
     lin.slacks.insert(key, v)?;
@@ -318,7 +363,11 @@ pub fn undo_to(lin: &mut Linear, n: usize) {
 fn put_bound(lin: &mut Linear, v: u32, low: bool, b: Bound) -> Result<(), NoMemory> {
     let x = var_at(lin, v);
     let old = if low { x.low } else { x.high };
-    lin.trail.push(Undo { var: v, low, bound: old })?;
+    lin.trail.push(Undo {
+        var: v,
+        low,
+        bound: old,
+    })?;
     if let Some(x) = lin.vars.get_mut(v as usize) {
         if low {
             x.low = b;
@@ -336,9 +385,19 @@ fn is_tighter(low: bool, value: i128, other: i128) -> bool {
 }
 
 /// Adds a bound. Answers the two that refute, where they do.
-pub fn bounded(alloc: Global, lin: &mut Linear, v: u32, low: bool, b: Bound) -> Result<Checked, NoMemory> {
+pub fn bounded(
+    alloc: Global,
+    lin: &mut Linear,
+    v: u32,
+    low: bool,
+    b: Bound,
+) -> Result<Checked, NoMemory> {
     let x = var_at(lin, v);
-    let (mine, other) = if low { (x.low, x.high) } else { (x.high, x.low) };
+    let (mine, other) = if low {
+        (x.low, x.high)
+    } else {
+        (x.high, x.low)
+    };
     if mine.there && !is_tighter(low, b.value, mine.value) {
         return Ok(Checked::Fine);
     }
@@ -350,7 +409,11 @@ pub fn bounded(alloc: Global, lin: &mut Linear, v: u32, low: bool, b: Bound) -> 
     }
     put_bound(lin, v, low, b)?;
     if x.row == NONE {
-        let outside = if low { is_below(x.at, whole(b.value)) } else { is_below(whole(b.value), x.at) };
+        let outside = if low {
+            is_below(x.at, whole(b.value))
+        } else {
+            is_below(whole(b.value), x.at)
+        };
         if outside != Some(false) && !moved(lin, v, whole(b.value)) {
             lin.stuck = true;
         }
@@ -577,7 +640,14 @@ pub fn check(alloc: Global, lin: &mut Linear) -> Result<Checked, NoMemory> {
 }
 
 // The basic variable of a row goes to a place, and another one becomes basic.
-fn swapped(alloc: Global, lin: &mut Linear, r: usize, basic: u32, v: u32, to: Ratio) -> Result<bool, NoMemory> {
+fn swapped(
+    alloc: Global,
+    lin: &mut Linear,
+    r: usize,
+    basic: u32,
+    v: u32,
+    to: Ratio,
+) -> Result<bool, NoMemory> {
     let Some((_, c, d)) = entry(lin, r, v) else {
         return Ok(false);
     };
@@ -626,7 +696,11 @@ fn stop(lin: &Linear, v: u32, up: bool) -> Option<(usize, Ratio)> {
         let place = plus(at, times(minus(whole(bound.value), y.at)?, row.den, c)?)?;
         let nearer = match best {
             None => true,
-            Some((_, b)) => if up { is_below(place, b)? } else { is_below(b, place)? },
+            Some((_, b)) => if up {
+                is_below(place, b)?
+            } else {
+                is_below(b, place)?
+            },
         };
         if nearer {
             best = Some((r, place));
@@ -636,7 +710,12 @@ fn stop(lin: &Linear, v: u32, up: bool) -> Option<(usize, Ratio)> {
 }
 
 /// The greatest value of a variable within the bounds, or the least; none where there is no end or it isn't found.
-pub fn extreme(alloc: Global, lin: &mut Linear, v: u32, up: bool) -> Result<Option<Ratio>, NoMemory> {
+pub fn extreme(
+    alloc: Global,
+    lin: &mut Linear,
+    v: u32,
+    up: bool,
+) -> Result<Option<Ratio>, NoMemory> {
     for _ in 0..200 {
         let x = var_at(lin, v);
         let (move_var, go_up) = match lin.rows.get(x.row as usize) {

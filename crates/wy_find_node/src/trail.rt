@@ -185,7 +185,14 @@ pub fn value_of_atom(f: &Finder, atom: u32) -> u8 {
 }
 
 pub fn here(f: &Finder) -> Mark {
-    Mark { items: f.items.len(), derivs: f.derivs.len(), bounds: f.lin.trail.len(), done: f.done_log.len(), regs: f.regs.len(), fed: f.fed }
+    Mark {
+        items: f.items.len(),
+        derivs: f.derivs.len(),
+        bounds: f.lin.trail.len(),
+        done: f.done_log.len(),
+        regs: f.regs.len(),
+        fed: f.fed,
+    }
 }
 
 // Takes formulas off the trail.
@@ -235,7 +242,14 @@ pub fn first_time(f: &mut Finder, key: (u32, u32, u32)) -> Result<bool, NoMemory
 // ---- adding
 
 /// Adds a step, and what it adds. Says whether the trail has more.
-pub fn step(f: &mut Finder, terms: &mut Terms, how: How, needs: Vec<Ref>, adds: Vec<Ref>, age: u32) -> Result<bool, NoMemory> {
+pub fn step(
+    f: &mut Finder,
+    terms: &mut Terms,
+    how: How,
+    needs: Vec<Ref>,
+    adds: Vec<Ref>,
+    age: u32,
+) -> Result<bool, NoMemory> {
     let first = f.items.len();
     for a in &adds {
         put(f, terms, a.0, a.1, age)?;
@@ -243,19 +257,37 @@ pub fn step(f: &mut Finder, terms: &mut Terms, how: How, needs: Vec<Ref>, adds: 
     if f.items.len() == first {
         return Ok(false);
     }
-    f.derivs.push(Deriv { how, needs, adds, first })?;
+    f.derivs.push(Deriv {
+        how,
+        needs,
+        adds,
+        first,
+    })?;
     Ok(true)
 }
 
 /// A step that adds one formula.
-pub fn step_one(f: &mut Finder, terms: &mut Terms, how: How, needs: Vec<Ref>, add: Ref, age: u32) -> Result<bool, NoMemory> {
+pub fn step_one(
+    f: &mut Finder,
+    terms: &mut Terms,
+    how: How,
+    needs: Vec<Ref>,
+    add: Ref,
+    age: u32,
+) -> Result<bool, NoMemory> {
     let mut adds = refs(f.alloc);
     adds.push(add)?;
     step(f, terms, how, needs, adds, age)
 }
 
 // A formula, taken apart as the checker does.
-fn put(f: &mut Finder, terms: &mut Terms, formula: u32, holds: bool, age: u32) -> Result<(), NoMemory> {
+fn put(
+    f: &mut Finder,
+    terms: &mut Terms,
+    formula: u32,
+    holds: bool,
+    age: u32,
+) -> Result<(), NoMemory> {
     let mut todo = refs(f.alloc);
     todo.push((formula, holds))?;
     for _ in 0..1000000 {
@@ -265,10 +297,18 @@ fn put(f: &mut Finder, terms: &mut Terms, formula: u32, holds: bool, age: u32) -
         match shape_of(terms, g) {
             Shape::Not(k) => todo.push((k, !h))?,
             Shape::And => {
-                if h { put_members(terms, &mut todo, g, h)? } else { put_item(f, terms, g, h, false, age)? }
+                if h {
+                    put_members(terms, &mut todo, g, h)?
+                } else {
+                    put_item(f, terms, g, h, false, age)?
+                }
             }
             Shape::Or => {
-                if h { put_item(f, terms, g, h, false, age)? } else { put_members(terms, &mut todo, g, h)? }
+                if h {
+                    put_item(f, terms, g, h, false, age)?
+                } else {
+                    put_members(terms, &mut todo, g, h)?
+                }
             }
             _ => put_item(f, terms, g, h, true, age)?,
         }
@@ -286,13 +326,25 @@ fn put_members(terms: &Terms, todo: &mut Vec<Ref>, g: u32, h: bool) -> Result<()
     Ok(())
 }
 
-fn put_item(f: &mut Finder, terms: &mut Terms, formula: u32, holds: bool, literal: bool, age: u32) -> Result<(), NoMemory> {
+fn put_item(
+    f: &mut Finder,
+    terms: &mut Terms,
+    formula: u32,
+    holds: bool,
+    literal: bool,
+    age: u32,
+) -> Result<(), NoMemory> {
     if f.known.contains_key(&(formula, holds)) {
         return Ok(());
     }
     let n = u32::try_from(f.items.len()).unwrap_or(NONE);
     f.known.insert((formula, holds), n)?;
-    f.items.push(Item { formula, holds, literal, age })?;
+    f.items.push(Item {
+        formula,
+        holds,
+        literal,
+        age,
+    })?;
     register(f, terms, formula, age)
 }
 
@@ -354,7 +406,12 @@ fn free_binders(f: &Finder, terms: &mut Terms, t: u32) -> Result<Vec<u32>, NoMem
 }
 
 /// Notes the names that the quantifiers of a formula bind.
-pub fn note_binders(f: &mut Finder, terms: &mut Terms, formula: u32, seen: &mut HashMap<u32, u32>) -> Result<(), NoMemory> {
+pub fn note_binders(
+    f: &mut Finder,
+    terms: &mut Terms,
+    formula: u32,
+    seen: &mut HashMap<u32, u32>,
+) -> Result<(), NoMemory> {
     let mut todo = Vec::new(f.alloc);
     todo.push(formula)?;
     for _ in 0..10000000 {
@@ -440,11 +497,19 @@ pub fn close(f: &mut Finder, m: &Mark, end: End, needs: Vec<Ref>) -> Result<u32,
     drop_items(f, m.items);
     restore(f, m);
     let n = u32::try_from(f.proofs.len()).unwrap_or(NONE);
-    f.proofs.push(Proof { steps, end, needs: left })?;
+    f.proofs.push(Proof {
+        steps,
+        end,
+        needs: left,
+    })?;
     Ok(n)
 }
 
-fn want(wanted: &mut HashMap<Ref, u32>, order: &mut Vec<Ref>, needs: &[Ref]) -> Result<(), NoMemory> {
+fn want(
+    wanted: &mut HashMap<Ref, u32>,
+    order: &mut Vec<Ref>,
+    needs: &[Ref],
+) -> Result<(), NoMemory> {
     for r in needs {
         if !wanted.contains_key(r) {
             wanted.insert(*r, 1)?;
