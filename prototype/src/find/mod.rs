@@ -1,0 +1,15 @@
+pub mod looking;
+pub mod ratios;
+pub mod tableau;
+pub mod trail;
+pub mod plans;
+pub mod congruence;
+pub mod bounds;
+pub mod theory;
+pub mod facts;
+pub mod instances;
+pub mod cuts;
+pub mod products;
+pub mod joins;
+pub mod engine;
+pub mod writing;
