@@ -1,5 +1,5 @@
 -- Expressions of a module in the program that it is put into. Names of fields stay.
-use Rattle.std.specs.Prelude.{List, Option, Some, None}
+use Rattle.std.specs.Prelude.{ℕ, List, Option, Some, None}
 use Rattle.wy_ast.specs.SurfaceTree.{Expr, Exprs, Fields, Ranges, NullExpr, BoolExpr, IntExpr, TextExpr, VarExpr, CallExpr, NegExpr, NotExpr, LenExpr, BinaryExpr, IsExpr, IndexExpr, FieldExpr, ListExpr, RepeatExpr, RecordExpr, QuantExpr, NoExprs, MoreExprs, NoFields, MoreFields, NoRanges, MoreRanges}
 use Rattle.wy_link_tree.specs.Sights.{marked, moved}
 use Rattle.wy_link_tree.specs.Types.{in_ty}
@@ -41,3 +41,11 @@ abbrev mutual
 abbrev pub in_option : Sight → Option Expr → Option Expr
 in_option s None = None
 in_option s (Some e) = Some (in_expr s e)
+
+-- a field of a record
+abbrev pub in_field : Sight → List ℕ × Expr → List ℕ × Expr
+in_field s f = (f.0, in_expr s f.1)
+
+-- a range of a quantifier
+abbrev pub in_range : Sight → List ℕ × Expr × Expr → List ℕ × Expr × Expr
+in_range s r = (marked s r.0, in_expr s r.1, in_expr s r.2)

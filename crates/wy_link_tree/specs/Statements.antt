@@ -1,5 +1,6 @@
 -- Statements of a module in the program that it is put into.
 use Rattle.std.specs.Prelude.{List, map, Option, Some, None}
+use Rattle.wy_ast.specs.SurfaceSeen.{SeenCase}
 use Rattle.wy_ast.specs.SurfaceTree.{Step, IndexStep, FieldStep, Stmt, Stmts, Cases, DeclareStmt, AssignStmt, CallStmt, ReturnStmt, AssertStmt, BreakStmt, ContinueStmt, SkipStmt, FailStmt, IfStmt, WhileStmt, DoStmt, ForStmt, SwitchStmt, SwitchElseStmt, NoStmts, MoreStmts, NoCases, MoreCases}
 use Rattle.wy_link_tree.specs.Sights.{marked, moved}
 use Rattle.wy_link_tree.specs.Types.{in_ty}
@@ -38,7 +39,11 @@ abbrev mutual
   in_cases s NoCases = NoCases
   in_cases s (MoreCases labels body rest) = MoreCases (map (in_expr s) labels) (in_stmts s body) (in_cases s rest)
 
+-- a case of a switch by itself
+abbrev pub in_case : Sight → SeenCase → SeenCase
+in_case s c = (map (in_expr s) c.0, in_stmts s c.1)
+
 -- the block of a `default`, where there is one
-abbrev pub in_default : Sight → Option Stmts → Option Stmts
+abbrev pub in_default : Sight → Option (List Stmt) → Option (List Stmt)
 in_default s None = None
-in_default s (Some block) = Some (in_stmts s block)
+in_default s (Some block) = Some (map (in_stmt s) block)

@@ -1,4 +1,5 @@
 -- Types of a module in the program that it is put into. Names of fields stay.
+use Rattle.std.specs.Prelude.{ℕ, List}
 use Rattle.wy_ast.specs.SurfaceTree.{Ty, FieldTys, NullTy, BoolTy, IntTy, AnyTy, VoidTy, RecordTy, ArrayTy, UnionTy, InterTy, NotTy, NamedTy, NoFieldTys, MoreFieldTys}
 use Rattle.wy_link_tree.specs.Sights.{marked, moved}
 use Rattle.wy_link_tree.specs.declared.sight.Sight.{Sight}
@@ -20,3 +21,7 @@ abbrev mutual
   pub in_fields : Sight → FieldTys → FieldTys
   in_fields s NoFieldTys = NoFieldTys
   in_fields s (MoreFieldTys name t rest) = MoreFieldTys name (in_ty s t) (in_fields s rest)
+
+-- a field of a record type
+abbrev pub in_field : Sight → List ℕ × Ty → List ℕ × Ty
+in_field s f = (f.0, in_ty s f.1)

@@ -126,6 +126,7 @@ fn in_property(alloc: Global, sight: &Sight, property: &Property) -> Result<Prop
     })
 }
 
+#[tactic(auto, using(crate::proofs::ListLemmas::params_more))]
 fn in_params(alloc: Global, sight: &Sight, params: &[Param]) -> Result<Items<Param>, AllocError>
     ensures value { IfOk result (λ made. map seen_param made ≡ map (spec.in_param sight.now) (map seen_param params.now)) }
 {

@@ -1,7 +1,8 @@
 //! Expressions.
 ghost use Rattle.std.specs.Prelude.{◌≡◌, map, IfOk};
-ghost use Rattle.wy_ast.specs.SurfaceSeen.{seen_expr, seen_exprs, seen_fields, seen_option, seen_ranges};
+ghost use Rattle.wy_ast.specs.SurfaceSeen.{seen_expr, seen_exprs, seen_option};
 ghost use Rattle.wy_link_tree.specs.Expressions as spec;
+ghost use Rattle.wy_link_tree.specs.Lists.{seen_field, seen_range};
 
 use crate::sight::{Sight, marked, moved};
 use crate::types::in_ty;
@@ -70,6 +71,7 @@ fn boxed(alloc: Global, sight: &Sight, part: &Boxed<Expr>) -> Result<Boxed<Expr>
 
 /// These expressions.
 #[cycle(expr)]
+#[tactic(auto, using(crate::proofs::ListLemmas::exprs_more))]
 pub fn in_exprs(
     alloc: Global,
     sight: &Sight,
@@ -85,12 +87,13 @@ pub fn in_exprs(
 }
 
 #[cycle(expr)]
+#[tactic(auto, using(crate::proofs::ListLemmas::fields_more))]
 fn in_fields(
     alloc: Global,
     sight: &Sight,
     fields: &[(Name, Expr)],
 ) -> Result<Items<(Name, Expr)>, AllocError>
-    ensures value { IfOk result (λ made. seen_fields made ≡ spec.in_fields sight.now (seen_fields fields.now)) }
+    ensures value { IfOk result (λ made. map seen_field made ≡ map (spec.in_field sight.now) (map seen_field fields.now)) }
 {
     let mut made = Items::new(alloc);
     for field in fields {
@@ -101,12 +104,13 @@ fn in_fields(
 }
 
 #[cycle(expr)]
+#[tactic(auto, using(crate::proofs::ListLemmas::ranges_more))]
 fn in_ranges(
     alloc: Global,
     sight: &Sight,
     ranges: &[(Name, Expr, Expr)],
 ) -> Result<Items<(Name, Expr, Expr)>, AllocError>
-    ensures value { IfOk result (λ made. seen_ranges made ≡ spec.in_ranges sight.now (seen_ranges ranges.now)) }
+    ensures value { IfOk result (λ made. map seen_range made ≡ map (spec.in_range sight.now) (map seen_range ranges.now)) }
 {
     let mut made = Items::new(alloc);
     for range in ranges {

@@ -1,7 +1,6 @@
 //! Statements.
 ghost use Rattle.std.specs.Prelude.{◌≡◌, map, IfOk};
-ghost use Rattle.wy_ast.specs.SurfaceSeen.{seen_block, seen_step, seen_stmt};
-ghost use Rattle.wy_ast.specs.SurfaceTree.{cases_of};
+ghost use Rattle.wy_ast.specs.SurfaceSeen.{seen_step, seen_stmt};
 ghost use Rattle.wy_link_tree.specs.Lists.{seen_case, seen_default};
 ghost use Rattle.wy_link_tree.specs.Statements as spec;
 
@@ -72,8 +71,9 @@ fn in_stmt(alloc: Global, sight: &Sight, stmt: &Stmt) -> Result<Stmt, AllocError
 
 /// The statements of a block.
 #[cycle(stmt)]
+#[tactic(auto, using(crate::proofs::ListLemmas::stmts_more))]
 pub fn in_block(alloc: Global, sight: &Sight, stmts: &[Stmt]) -> Result<Items<Stmt>, AllocError>
-    ensures value { IfOk result (λ made. seen_block made ≡ spec.in_stmts sight.now (seen_block stmts.now)) }
+    ensures value { IfOk result (λ made. map seen_stmt made ≡ map (spec.in_stmt sight.now) (map seen_stmt stmts.now)) }
 {
     let mut made = Items::new(alloc);
     for stmt in stmts {
@@ -97,8 +97,9 @@ fn in_default(
 }
 
 #[cycle(stmt)]
+#[tactic(auto, using(crate::proofs::ListLemmas::cases_more))]
 fn in_cases(alloc: Global, sight: &Sight, cases: &[Case]) -> Result<Items<Case>, AllocError>
-    ensures value { IfOk result (λ made. cases_of (map seen_case made) ≡ spec.in_cases sight.now (cases_of (map seen_case cases.now))) }
+    ensures value { IfOk result (λ made. map seen_case made ≡ map (spec.in_case sight.now) (map seen_case cases.now)) }
 {
     let mut made = Items::new(alloc);
     for case in cases {
@@ -110,6 +111,7 @@ fn in_cases(alloc: Global, sight: &Sight, cases: &[Case]) -> Result<Items<Case>,
 }
 
 // The steps of the path into a variable.
+#[tactic(auto, using(crate::proofs::ListLemmas::steps_more))]
 fn in_path(alloc: Global, sight: &Sight, path: &[Step]) -> Result<Items<Step>, AllocError>
     ensures value { IfOk result (λ made. map seen_step made ≡ map (spec.in_step sight.now) (map seen_step path.now)) }
 {

@@ -1,7 +1,7 @@
 //! Types.
-ghost use Rattle.std.specs.Prelude.{◌≡◌, IfOk};
+ghost use Rattle.std.specs.Prelude.{◌≡◌, map, IfOk};
 ghost use Rattle.wy_ast.specs.SurfaceSeen.{seen_ty};
-ghost use Rattle.wy_link_tree.specs.Lists.{seen_field_tys};
+ghost use Rattle.wy_link_tree.specs.Lists.{seen_field_ty};
 ghost use Rattle.wy_link_tree.specs.Types as spec;
 
 use crate::sight::{Sight, marked, moved};
@@ -46,12 +46,13 @@ fn boxed(alloc: Global, sight: &Sight, part: &Boxed<Ty>) -> Result<Boxed<Ty>, Al
 }
 
 #[cycle(ty)]
+#[tactic(auto, using(crate::proofs::ListLemmas::field_tys_more))]
 fn in_fields(
     alloc: Global,
     sight: &Sight,
     fields: &[(Name, Ty)],
 ) -> Result<Items<(Name, Ty)>, AllocError>
-    ensures value { IfOk result (λ made. seen_field_tys made ≡ spec.in_fields sight.now (seen_field_tys fields.now)) }
+    ensures value { IfOk result (λ made. map seen_field_ty made ≡ map (spec.in_field sight.now) (map seen_field_ty fields.now)) }
 {
     let mut made = Items::new(alloc);
     for field in fields {
