@@ -1,4 +1,3 @@
 pub mod KeyLemmas
-pub mod LessLemmas
 pub mod NameLemmas
 pub mod TargetLemmas

@@ -31,7 +31,6 @@ pub mod PlaceLemmas
 -- labels that are joined
 pub mod LabelLemmas
 -- nodes of one symbol
-pub mod SymbolLemmas
 -- terms of other heads
 pub mod HeadLemmas
 -- terms of one signature

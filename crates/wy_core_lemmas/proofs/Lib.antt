@@ -1,2 +1,3 @@
+pub mod BlockDepths
 pub mod ExpressionKinds
 pub mod TypeKinds

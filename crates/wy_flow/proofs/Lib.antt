@@ -7,6 +7,5 @@ pub mod PathLemmas
 -- a program has one outcome
 pub mod ProgramLemmas
 -- blocks are less deep than their statement
-pub mod LessLemmas
 -- passed on to the crates above
 pub use Rattle.wy_types.proofs as wy_types_proofs

@@ -8,7 +8,6 @@ pub mod TypeLemmas
 pub mod NumberedLemmas
 -- what nodes stand for, and blocks that are less deep than their statement
 pub mod SeenLemmas
-pub mod LessLemmas
 -- sizes of terms
 pub mod LargeLemmas
 -- new names

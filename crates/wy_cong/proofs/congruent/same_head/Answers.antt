@@ -1,7 +1,7 @@
 use Rattle.std.proofs.Common.{◌∙◌}
 use Rattle.wy_term.specs.Nodes.{plain}
 use Rattle.wy_term_subst.specs.Substitution.{renumbered}
-use Rattle.wy_cong.proofs.SymbolLemmas.{head_is}
+use Rattle.wy_check_splits.proofs.HeadLemmas.{head_is}
 use Rattle.wy_cong.proofs.congruent.same_head.Goals as goal
 
 pub returns : goal.returns

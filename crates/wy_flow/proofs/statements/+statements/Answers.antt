@@ -10,7 +10,7 @@ use Rattle.wy_flow_spec.specs.typing.States as states
 use Rattle.wy_flow_spec.specs.typing.Statements as spec
 use Rattle.wy_flow_exprs.proofs.checks_lemmas.StepLemmas.{next, first_refused}
 use Rattle.wy_flow.proofs.WalkLemmas.{moved, shifted, onto, end_if_by, end_loop_by}
-use Rattle.wy_flow.proofs.LessLemmas.{first_falls, second_falls, body_falls}
+use Rattle.wy_core_lemmas.proofs.BlockDepths.{first_falls, second_falls, body_falls}
 use Rattle.wy_flow.proofs.statements.+statements.Goals as goal
 
 pub stmt_typed-returns-in-Declare-clause-value : goal.stmt_typed-returns-in-Declare-clause-value

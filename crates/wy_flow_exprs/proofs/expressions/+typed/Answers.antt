@@ -16,8 +16,8 @@ use Rattle.wy_flow_exprs.specs.Seen.{seen_all, seen_all_fields, seen_flow, seen_
 use Rattle.wy_flow_exprs.proofs.FoundLemmas.{truth_at, type_at}
 use Rattle.wy_flow_exprs.proofs.LoopLemmas.{exprs_turn, exprs_refused, exprs_end, fields_turn, fields_refused, fields_end}
 use Rattle.wy_flow_exprs.proofs.FormLemmas.{binary_at, right_at}
-use Rattle.wy_flow_exprs.proofs.KindLemmas.{as_kind, null_of, bool_of, int_of, var_of, call_of, neg_of, not_of, len_of, binary_of, is_of, index_of, field_of, list_of, repeat_of, record_of, quant_of}
-use Rattle.wy_flow_exprs.proofs.KindLemmas.{under}
+use Rattle.wy_core_lemmas.proofs.ExpressionKinds.{null_of, bool_of, int_of, var_of, call_of, neg_of, not_of, len_of, binary_of, is_of, index_of, field_of, list_of, repeat_of, record_of, quant_of}
+use Rattle.wy_flow_exprs.proofs.KindLemmas.{as_kind, under}
 use Rattle.wy_flow_exprs.proofs.expressions.+typed.Goals as goal
 
 pub typed-returns-in_ok-ty-in-Null-clause-value : goal.typed-returns-in_ok-ty-in-Null-clause-value

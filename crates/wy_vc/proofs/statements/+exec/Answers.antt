@@ -12,7 +12,7 @@ use Rattle.wy_vc_body.specs.Frames.{body_at}
 use Rattle.wy_vc_body.proofs.FrameLemmas.{frame_on}
 use Rattle.wy_vc_body.proofs.PathLemmas.{paths_on}
 use Rattle.wy_vc_body.specs.Paths.{spot_of}
-use Rattle.wy_vc_body.proofs.LessLemmas.{body_falls, first_falls, second_falls}
+use Rattle.wy_core_lemmas.proofs.BlockDepths.{body_falls, first_falls, second_falls}
 use Rattle.wy_vc_body.proofs.SeenLemmas.{seen_assert, seen_break, seen_continue, seen_declare, seen_fail, seen_return, seen_skip}
 use Rattle.wy_vc_body.specs.wy_vc_exprs.Slots.{AreSlots}
 use Rattle.wy_vc_body.proofs.wy_vc_exprs_proofs.NumberedLemmas.{kept_then}

@@ -1,5 +1,5 @@
 use Rattle.std.proofs.Common.{arith}
-use Rattle.wy_code_spec.proofs.tables_lemmas.LessLemmas.{first_falls, second_falls, body_falls}
+use Rattle.wy_core_lemmas.proofs.BlockDepths.{first_falls, second_falls, body_falls}
 use Rattle.wy_code_spec.proofs.tables.tables.+stmts.Goals as goal
 
 pub stmt_table-block_table-requires : goal.stmt_table-block_table-requires
