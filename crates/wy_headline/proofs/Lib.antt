@@ -6,5 +6,7 @@ pub mod RunLemmas
 pub mod EnoughLemmas
 pub mod CommandLemmas
 pub mod SeenLemmas
+pub mod CandidateLemmas
+pub mod ProbeLemmas
 pub mod MeansLemmas
 pub mod due_lemmas

@@ -8,6 +8,7 @@ use Rattle.wy_top.specs.wy_top_answers.Steps.{Came, EndsOutside, Follows, goes_o
 use Rattle.wy_top.specs.wy_top_answers.Texts.{load_status, load_text, not_certified}
 use Rattle.wy_top.specs.wy_top_answers.declared.answer.Answer.{Answer}
 use Rattle.wy_top.specs.wy_cert.Steps.{Certificates}
+use Rattle.wy_core.specs.CoreTree.{Core}
 use Rattle.wy_port.specs.Taken.{with_taken}
 use Rattle.wy_port.specs.declared.files.LoadFault.{LoadFault}
 use Rattle.wy_port.specs.declared.files.LoadFault.TheVariants as load
@@ -17,11 +18,13 @@ use Rattle.wy_top.specs.wy_top_answers.supplied.Certificates.{certificates, from
 use Rattle.wy_top.specs.wy_top_answers.report.Lines.{save_failed, words_refused}
 use Rattle.wy_top_big.specs.Source.{argument_text, entry}
 use Rattle.wy_top.specs.wy_link_load.Alone.{loads_alone}
+use Rattle.wy_top.specs.wy_probe.Trials.{Finding, Faulted, Faultless}
 use Rattle.wy_top.proofs.wy_link_load_proofs.AnswerLemmas.{alone_covered}
 use Rattle.wy_top.specs.Acceptance.{Acceptance, accepts, accepts_file, accepts_source, are_closed, check_steps}
 use Rattle.wy_top.specs.Known.{Known}
 use Rattle.wy_top.specs.Large.{large_name, makes_one}
 use Rattle.wy_top.specs.Launching.{fault_status, run_steps, starts}
+use Rattle.wy_top.specs.Probing.{IsProbed, enters, found_answer, probe_steps, reads}
 use Rattle.wy_top.specs.Programs.{Program, owes}
 use Rattle.wy_top.specs.Proofs.{IsJudged, proof_answer, proves_file}
 use Rattle.wy_top.specs.Saves.{Saves, Saving}
@@ -30,7 +33,7 @@ use Rattle.wy_top.specs.Statement.{Does, DoesIf, IsAnswered, ShowsProof}
 use Rattle.wy_top.specs.Texts.{source_for, text, text_steps}
 use Rattle.wy_top.specs.declared.texts.Text.{Text}
 use Rattle.wy_top.specs.declared.texts.Text.TheVariants as kind_of
-use Rattle.wy_top_words.specs.CommandLine.{Asked, check, run, prove, conds, fmt, dis, big, command_of}
+use Rattle.wy_top_words.specs.CommandLine.{Asked, check, run, prove, conds, fmt, dis, big, probe, command_of}
 use Rattle.wy_headline.specs.Commands.{AnswersLarge, ComesToLarge, ComesToRun, large_start, line_written, ran, ran_large, refused_large, refused_run, steps_spend}
 use Rattle.wy_headline.specs.Runs as of_runs
 use Rattle.wy_headline.specs.Runs.{Entry}
@@ -96,6 +99,9 @@ no_10 e = omega (arith, e)
 
 no_11 : ◌≢◌ {A = ℕ} 11 13
 no_11 e = omega (arith, e)
+
+no_12 : ◌≢◌ {A = ℕ} 12 13
+no_12 e = omega (arith, e)
 
 shown_apart : (a : Answer) (status : ℕ) (k : Sinks) → Apart a → Shown a status k → status ≢ 13
 shown_apart a status k apart (inl w) e = apart (sym w.answer ∙ e)
@@ -264,6 +270,30 @@ large_comes s functions seed budget steps a (ran_large l of h) = line_apart _ _ 
 large_comes s functions seed budget steps a (refused_large (inl h)) = large_apart s functions seed budget a h
 large_comes s functions seed budget steps a (refused_large (inr h)) = outside_apart s a h
 
+-- ---- the command `probe`
+
+found_apart : (bytes : List ℕ) (f : Finding) (a : Answer) → a ≡ found_answer bytes f → Apart a
+found_apart bytes (Faulted number vs kind at) a is = other 12 a _ is refl no_12
+found_apart bytes (Faultless tried met undecided) a is = other 0 a _ is refl no_0
+
+probed_apart : (bytes : List ℕ) (core : Core ℕ) (tuples ticks entry : ℕ) (a : Answer) → IsProbed bytes core tuples ticks entry (Ok a) → Apart a
+probed_apart bytes core tuples ticks entry a h = found_apart bytes h.finding a (answer_is a _ h.answer)
+
+enters_apart : (core : Core ℕ) (name : List ℕ) (a : Answer) → enters core name stated (Err a) → Apart a
+enters_apart core name a h = faulted_apart _ _ (λ f. no_7) a h
+
+reads_apart : (name bytes : List ℕ) (a : Answer) → reads name bytes stated (Err a) → Apart a
+reads_apart name bytes a h = faulted_apart _ _ (λ f. no_1) a h
+
+probe_good : (s : Setting) (source name : List ℕ) (tuples ticks : ℕ) (a : Answer) → probe_steps s source name tuples ticks stated (Ok a) → Apart a
+probe_good s source name tuples ticks a h =
+    value_apart _ _ (λ bytes b g. value_apart _ _ (λ p c f. value_apart _ _ (λ entry d e. probed_apart bytes p.core tuples ticks entry d e) c f) b g) a h
+
+probe_bad : (s : Setting) (source name : List ℕ) (tuples ticks : ℕ) (a : Answer) → probe_steps s source name tuples ticks stated (Err a) → Apart a
+probe_bad s source name tuples ticks a h =
+    of_steps Apart _ _ (λ b g. alone_apart s source b g) (λ bytes b g. of_steps Apart _ _ (λ c f. reads_apart source bytes c f)
+    (λ p c f. of_steps Apart _ _ (λ d e. enters_apart p.core name d e) (λ entry d e. absurd (no_answer d _ e.answer)) c f) b g) a h
+
 -- ---- the command `prove`
 
 proof_apart : (name bytes : List ℕ) (p : Program) (budget : ℕ) (ks : List Known) (b : Bool) (a : Answer) → a ≡ proof_answer name bytes p budget ks b → Apart a
@@ -307,6 +337,7 @@ done_fine (dis source) s v status k h = answered_apart s (text_steps s kind_of.L
 done_fine (big functions seed budget steps) s v status k h =
     let g = large_right s functions seed budget steps status k h in
     shown_apart g.answer status k (large_comes s functions seed budget steps g.answer g.comes) g.shown
+done_fine (probe source name tuples ticks) s v status k h = answered_apart s (probe_steps s source name tuples ticks) (probe_good s source name tuples ticks) (probe_bad s source name tuples ticks) status k h
 
 asked_fine : (asked : Option Asked) (s : Setting) (v : Saving) (status : ℕ) (k : Sinks) → DoesIf asked s v status k → IsNeverStuck asked status k
 asked_fine (Some asked) s v status k h = done_fine asked s v status k h
@@ -322,6 +353,7 @@ all_weak (Some (conds source)) status k apart = apart
 all_weak (Some (fmt source)) status k apart = apart
 all_weak (Some (dis source)) status k apart = apart
 all_weak (Some (big functions seed budget steps)) status k apart = apart
+all_weak (Some (probe source name tuples ticks)) status k apart = apart
 
 pub never_sticks : NeverSticks
 never_sticks words s v status k (inl h) = asked_fine (command_of words) s v status k h

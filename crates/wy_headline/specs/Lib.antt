@@ -3,6 +3,7 @@ pub mod Sources
 pub mod Started
 pub mod Runs
 pub mod Commands
+pub mod Probes
 pub mod Seen
 pub mod Means
 pub mod due

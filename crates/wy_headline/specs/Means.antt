@@ -5,11 +5,12 @@ use Rattle.wy_top.specs.wy_top_answers.Showing.{Shown, Sinks}
 use Rattle.wy_top.specs.wy_top_answers.Steps.{Setting}
 use Rattle.wy_top.specs.Saves.{Saving}
 use Rattle.wy_top.specs.Statement.{Comes}
-use Rattle.wy_top_words.specs.CommandLine.{Asked, check, run, prove, conds, fmt, dis, big, command_of}
+use Rattle.wy_top_words.specs.CommandLine.{Asked, check, run, prove, conds, fmt, dis, big, probe, command_of}
 use Rattle.wy_headline.specs.Commands.{MeansRun, ShowsLarge}
+use Rattle.wy_headline.specs.Probes.{MeansProbe}
 use Rattle.wy_headline.specs.Seen.{IsNeverStuck}
 
--- of the commands that run programs
+-- of the commands that run programs, and of the one that looks for faults
 abbrev pub MeansAsked : Asked → Setting → ℕ → Sinks → Type 0
 MeansAsked (check source cert budget) s status k = ⊤
 MeansAsked (run source cert name arguments budget steps stats) s status k = MeansRun s source cert name arguments budget steps stats status k
@@ -18,12 +19,13 @@ MeansAsked (conds source) s status k = ⊤
 MeansAsked (fmt source) s status k = ⊤
 MeansAsked (dis source) s status k = ⊤
 MeansAsked (big functions seed budget steps) s status k = ShowsLarge s functions seed budget steps status k
+MeansAsked (probe source name tuples ticks) s status k = MeansProbe s source name tuples ticks status k
 
 abbrev pub MeansIf : Option Asked → Setting → ℕ → Sinks → Type 0
 MeansIf (Some asked) s status k = MeansAsked asked s status k
 MeansIf None s status k = ⊤
 
--- a run that words ask for does what the program does, want of memory to read them aside; and whatever they ask for, status 13 comes of `prove` alone
+-- a run that words ask for does what the program does, and a probe tells what faults, want of memory to read them aside; and whatever they ask for, status 13 comes of `prove` alone
 pub record Means (words : List (List ℕ)) (s : Setting) (status : ℕ) (k : Sinks) : Type 0 where
   pub asked : MeansIf (command_of words) s status k ⊎ Shown no_memory status k
   pub never : IsNeverStuck (command_of words) status k

@@ -28,7 +28,8 @@ pub fn run_words<F: Files, O: Sink, E: Sink>(
         result
         (sinks (O.taken out.old) (O.taken out.new) (O.faults out.old) (O.faults out.new) (E.taken err.old) (E.taken err.new) (E.faults err.old) (E.faults err.new)) }
 
-    // An accepted program runs as the value semantics says, and its contract holds of what it gives. Status 13 comes of `prove` alone.
+    // An accepted program runs as the value semantics says, and its contract holds of what it gives. A fault that a probe tells is one
+    // of the value semantics, and never of an accepted program. Status 13 comes of `prove` alone.
     ensures means { Means (words_in words.now)
         (setting (F.told files.old) (F.load_faults files.old) (F.load_faults files.new) (F.misses files.old) (F.misses files.new))
         result

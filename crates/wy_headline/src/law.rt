@@ -1,6 +1,7 @@
-//! What is known of the commands that run programs.
+//! What is known of the commands that run programs, and of the one that looks for faults.
 ghost use Rattle.wy_headline.specs.Commands.{LargeRunsAreRight, RunsAreRight};
 ghost use Rattle.wy_headline.specs.Means.{CallsMean};
+ghost use Rattle.wy_headline.specs.Probes.{ProbesAreRight};
 ghost use Rattle.wy_headline.specs.Runs.{EnoughStepsEnd};
 ghost use Rattle.wy_headline.specs.Seen.{NeverSticks};
 
@@ -24,6 +25,15 @@ pub fn enough_steps_end_the_run()
 /// The command `big`: likewise of the source that it makes, with its one line.
 pub fn big_runs_are_right()
     ensures right { LargeRunsAreRight }
+{}
+
+/// The command `probe`. Status 12 comes only where the source is a typed and assigned program in which the words name a function
+/// or method, and one of its first so many tuples of arguments, not undecided, meets the precondition, and the value semantics
+/// faults on it within so many ticks; the line is that of the first such tuple. Such a program is accepted with no certificates
+/// and no budget. Where files are told, the line and the status come wherever a tuple faults so, but for a failed load (4), a failed
+/// sink (5) and want of memory (9).
+pub fn probes_are_right()
+    ensures right { ProbesAreRight }
 {}
 
 /// Whatever the words, a run never lacks a step: status 13 comes of the command `prove` alone, for a condition

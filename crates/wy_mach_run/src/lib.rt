@@ -24,6 +24,7 @@ pub mod sound;
 mod starting;
 
 pub use end::RunEnd;
+pub use entry::{Entry, entry_of};
 pub use fault::StartFault;
 pub use laws::at_most_one_start;
 pub use parts::Start;

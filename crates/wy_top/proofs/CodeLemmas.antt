@@ -1,6 +1,6 @@
 -- The code of the program that a source has is such as a machine takes.
 use Rattle.std.proofs.Common.{ℕ, List, map, subst}
-use Rattle.wy_top_source.specs.wy_ast.SurfaceSeen.{seen_decl}
+use Rattle.wy_top_probe.specs.wy_top_source.wy_ast.SurfaceSeen.{seen_decl}
 use Rattle.wy_gen_sources.specs.wy_code_spec.ints.Loadable.{IsLoadable}
 use Rattle.wy_gen_sources.proofs.wy_code_spec_proofs.ints_lemmas.LoadableLemmas.{loadable}
 use Rattle.wy_gen_sources.specs.wy_code_spec.compiled.Fields.{HasFields}
@@ -11,7 +11,7 @@ use Rattle.wy_core.specs.Types.{Ty}
 use Rattle.wy_gen_sources.proofs.source_ints_lemmas.FieldNameLemmas.{named_fields}
 use Rattle.wy_core.specs.formed.Literals.{Ints}
 use Rattle.wy_gen_sources.proofs.wy_names_proofs.resolved_lemmas.LiteralLemmas.{named_ints_alone}
-use Rattle.wy_top_source.specs.texts.Sources.{IsProgram}
+use Rattle.wy_top_probe.specs.wy_top_source.texts.Sources.{IsProgram}
 use Rattle.wy_gen_sources.proofs.source_ints_lemmas.ProgramLeaves.{read-fields}
 use Rattle.wy_gen_sources.proofs.source_ints_lemmas.ProgramLeaves.{read-ints}
 

@@ -3,7 +3,7 @@ use Rattle.std.proofs.Common.{◌≡◌, ◌⊎◌, ℕ, List, Bool, Ok, Err, in
 use Rattle.wy_top_answers.specs.Showing.{ShowsWhole, Shown, Sinks}
 use Rattle.wy_top_answers.specs.Steps.{Came, EndsFree, IsFree, IsOutside, Sense, Setting, answer_in, failed, from_outside, memory, uncertified}
 use Rattle.wy_top_answers.specs.declared.answer.Answer.{Answer}
-use Rattle.wy_top_words.specs.CommandLine.{check, run, prove, conds, fmt, dis, big}
+use Rattle.wy_top_words.specs.CommandLine.{check, run, prove, conds, fmt, dis, big, probe}
 use Rattle.wy_top.specs.Exact.{AnswersExactly, DoesExactly, IsElse, ShowsDue}
 use Rattle.wy_top.specs.Saves.{Saves, Saving, whole, failed as save_failed, no_memory as save_lacks_memory}
 use Rattle.wy_top.specs.Statement.{IsAnswered, ShowsProof, ShowsRun}
@@ -41,7 +41,7 @@ by_last s last other status k shown (inl e) = whole_or (answer_in other) status 
 by_last s (Ok a) other status k shown (inr free) = absurd free
 by_last s (Err a) other status k shown (inr free) = inr (free_shown s a status k free shown)
 
-answered : (s : Setting) (step : Sense → Came Answer → Type 0) (status : ℕ) (k : Sinks) → IsAnswered s step status k → AnswersExactly s step status k
+pub answered : (s : Setting) (step : Sense → Came Answer → Type 0) (status : ℕ) (k : Sinks) → IsAnswered s step status k → AnswersExactly s step status k
 answered s step status k h told other is_due =
     by_last s h.answers.last other status k (subst (λ (a : Answer). Shown a status k) h.answers.is h.shown) (h.answers.gives.only told other is_due)
 
@@ -87,3 +87,4 @@ does_exactly (conds source) s v status k h = answered s _ status k h
 does_exactly (fmt source) s v status k h = answered s _ status k h
 does_exactly (dis source) s v status k h = answered s _ status k h
 does_exactly (big functions seed budget steps) s v status k h = answered s _ status k h
+does_exactly (probe source name tuples ticks) s v status k h = answered s _ status k h

@@ -9,11 +9,11 @@ use Rattle.wy_top_answers.proofs.StepLemmas.{value_gives, refusal_gives}
 use Rattle.wy_top_answers.proofs.AnswerLemmas.{last_answers, memory_answers}
 use Rattle.wy_top_big.specs.Source.{source_of}
 use Rattle.wy_lemmas.proofs.Lists.{same_bytes}
-use Rattle.wy_mach_run.specs.wy_mach.Running.{Spends}
+use Rattle.wy_top_probe.specs.wy_mach_run.wy_mach.Running.{Spends}
 use Rattle.wy_top_answers.specs.report.Lines.{steps_spent}
-use Rattle.wy_mach_run.specs.Running.{EndsSo, Finished, written}
-use Rattle.wy_mach_run.specs.declared.end.RunEnd.{RunEnd}
-use Rattle.wy_mach_run.specs.declared.end.RunEnd.TheVariants.{Done, Spent, OutFault}
+use Rattle.wy_top_probe.specs.wy_mach_run.Running.{EndsSo, Finished, written}
+use Rattle.wy_top_probe.specs.wy_mach_run.declared.end.RunEnd.{RunEnd}
+use Rattle.wy_top_probe.specs.wy_mach_run.declared.end.RunEnd.TheVariants.{Done, Spent, OutFault}
 use Rattle.wy_gen_sources.specs.wy_code_spec.step.Step as step
 use Rattle.wy_gen_sources.specs.wy_code_spec.step.Step.{State, Ended, Frame, Caller}
 use Rattle.wy_value.specs.Datum.{Datum}

@@ -5,10 +5,10 @@ use Rattle.wy_top_answers.specs.Calls.{AnswersFault}
 use Rattle.wy_top_answers.specs.Steps.{Setting, Gives}
 use Rattle.wy_top_answers.specs.declared.answer.Answer.{Answer}
 use Rattle.wy_top_answers.proofs.CallLemmas.{called_value, called_fault}
-use Rattle.wy_mach_run.specs.Starting.{IsRefused, Starts}
-use Rattle.wy_mach_run.specs.declared.fault.StartFault.{StartFault}
-use Rattle.wy_mach_run.specs.declared.fault.StartFault.TheVariants.{NoMemory}
-use Rattle.wy_mach_run.specs.declared.parts.Start.{Start}
+use Rattle.wy_top_probe.specs.wy_mach_run.Starting.{IsRefused, Starts}
+use Rattle.wy_top_probe.specs.wy_mach_run.declared.fault.StartFault.{StartFault}
+use Rattle.wy_top_probe.specs.wy_mach_run.declared.fault.StartFault.TheVariants.{NoMemory}
+use Rattle.wy_top_probe.specs.wy_mach_run.declared.parts.Start.{Start}
 use Rattle.wy_top.specs.Launching.{IsLaunched, IsStopped, fault_line, fault_status, lacks_memory, start_faults, starts}
 use Rattle.wy_top.specs.declared.launching.Launch.{Launch}
 

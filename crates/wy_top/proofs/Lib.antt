@@ -24,7 +24,6 @@ pub mod GivenLemmas
 pub mod WritableLemmas
 -- they are accepted
 pub mod SavedLemmas
-pub mod PlaceLemmas
 pub mod OwingLemmas
 pub mod AcceptLemmas
 pub mod ProofLemmas
@@ -38,6 +37,8 @@ pub mod SaveLemmas
 pub mod ExactLemmas
 -- passed on to the crates above
 pub use Rattle.wy_gen_sources.proofs as wy_gen_sources_proofs
-pub use Rattle.wy_link_load.proofs as wy_link_load_proofs
-pub use Rattle.wy_mach_run.proofs as wy_mach_run_proofs
+pub use Rattle.wy_top_probe.proofs.wy_link_load_proofs as wy_link_load_proofs
+pub use Rattle.wy_top_probe.proofs.wy_mach_run_proofs as wy_mach_run_proofs
 pub use Rattle.wy_prove.proofs.wy_search_laws_proofs as wy_search_laws_proofs
+pub use Rattle.wy_top_probe.proofs.wy_probe_proofs as wy_probe_proofs
+pub use Rattle.wy_top_probe.proofs.wy_top_source_proofs as wy_top_source_proofs

@@ -1,12 +1,12 @@
 -- A source has one list of conditions, or one reason why there is none.
 use Rattle.std.proofs.Common.{◌≡◌, ◌∙◌, ℕ, List, Bool, true, false, IsTrue, refl, sym, ap, subst}
-use Rattle.wy_top_source.specs.wy_assign.Assigned.{IsAssigned}
+use Rattle.wy_top_probe.specs.wy_top_source.wy_assign.Assigned.{IsAssigned}
 use Rattle.wy_vc.specs.wy_vc_spec.Limits.{Passing, Within}
 use Rattle.wy_core.specs.CoreTree.{Core}
 use Rattle.wy_core.specs.Types.{Ty}
-use Rattle.wy_top_source.specs.texts.Refusals as refusals
-use Rattle.wy_top_source.specs.texts.Sources as sources
-use Rattle.wy_top_source.specs.declared.refusal.Refusal.{Refusal}
+use Rattle.wy_top_probe.specs.wy_top_source.texts.Refusals as refusals
+use Rattle.wy_top_probe.specs.wy_top_source.texts.Sources as sources
+use Rattle.wy_top_probe.specs.wy_top_source.declared.refusal.Refusal.{Refusal}
 use Rattle.wy_vc.specs.Listed as vc
 use Rattle.wy_vc.specs.declared.fault.VcFault.{VcFault}
 use Rattle.wy_vc.specs.declared.fault.VcFault.TheVariants.{TooManyConds, TooManyTerms, NoMemory}

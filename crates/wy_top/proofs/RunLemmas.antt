@@ -5,13 +5,13 @@ use Rattle.std.proofs.lemmas.List.{append-nil, append_assoc, length-append}
 use Rattle.wy_top_answers.specs.Showing.{sinks}
 use Rattle.wy_top_answers.proofs.LoadLemmas.{rose_within}
 use Rattle.wy_top_answers.proofs.ShowLemmas.{took_nothing, took_whole}
-use Rattle.wy_mach_run.specs.wy_mach.Running.{Spends}
+use Rattle.wy_top_probe.specs.wy_mach_run.wy_mach.Running.{Spends}
 use Rattle.wy_port.specs.Count.{Rose}
 use Rattle.wy_port.specs.Taken.{TookFront, with_taken}
 use Rattle.wy_top_answers.specs.report.Lines.{steps_spent}
-use Rattle.wy_mach_run.specs.Running.{EndsSo, Finished, WritesFront, written}
-use Rattle.wy_mach_run.specs.declared.end.RunEnd.{RunEnd}
-use Rattle.wy_mach_run.specs.declared.end.RunEnd.TheVariants.{Done, Spent, OutFault}
+use Rattle.wy_top_probe.specs.wy_mach_run.Running.{EndsSo, Finished, WritesFront, written}
+use Rattle.wy_top_probe.specs.wy_mach_run.declared.end.RunEnd.{RunEnd}
+use Rattle.wy_top_probe.specs.wy_mach_run.declared.end.RunEnd.TheVariants.{Done, Spent, OutFault}
 use Rattle.wy_gen_sources.specs.wy_code_spec.step.Step as step
 use Rattle.wy_gen_sources.specs.wy_code_spec.step.Step.{State, Ended}
 use Rattle.wy_top.specs.Runs.{Reports, whole, front, EndsRun, Shows, finished, spends, sink_failed, no_memory, stats_text}

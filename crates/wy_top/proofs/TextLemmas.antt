@@ -4,12 +4,13 @@ use Rattle.wy_top_answers.specs.Calls.{AnswersFault}
 use Rattle.wy_top_answers.specs.Steps.{Setting, Gives}
 use Rattle.wy_top_answers.specs.declared.answer.Answer.{Answer}
 use Rattle.wy_top_answers.proofs.CallLemmas.{called_value, called_fault}
-use Rattle.wy_top_source.specs.texts.Refusals.{is_no_memory}
-use Rattle.wy_top_source.specs.declared.refusal.Refusal.{Refusal}
-use Rattle.wy_top_source.specs.texts.Again.{IsAgain}
-use Rattle.wy_top_source.specs.texts.Texts.{IsDue, IsRefused, IsText}
-use Rattle.wy_top_source.specs.declared.texts.kind.Kind.{Kind}
-use Rattle.wy_top.specs.Texts.{fault_lines, has_text, is_faulted, program_text, source_faults}
+use Rattle.wy_top_probe.specs.wy_top_source.texts.Refusals.{is_no_memory}
+use Rattle.wy_top_probe.specs.wy_top_source.declared.refusal.Refusal.{Refusal}
+use Rattle.wy_top_probe.specs.wy_top_source.texts.Again.{IsAgain}
+use Rattle.wy_top_probe.specs.wy_top_source.texts.Texts.{IsDue, IsRefused, IsText}
+use Rattle.wy_top_probe.specs.wy_top_source.declared.texts.kind.Kind.{Kind}
+use Rattle.wy_top.specs.Texts.{has_text, program_text}
+use Rattle.wy_top_probe.specs.Texts.{fault_lines, is_faulted, source_faults}
 
 pub text_value : (s : Setting) (kind : Kind) (name bytes t : List ℕ) → IsText kind bytes t → IsAgain kind bytes t → ((u : List ℕ) → IsText kind bytes u → t ≡ u) → ((f : Refusal) → IsDue kind bytes f → ⊥)
     → Gives s (program_text kind name bytes) (Ok t)

@@ -1,7 +1,7 @@
 -- When is a program accepted? For each of its conditions a valid certificate was supplied, or its search closes all leaves within the budget.
 use Rattle.std.specs.Prelude.{◌≡◌, ◌&&◌, ℕ, List, [], ◌∷◌, ◌++◌, Bool, true, false, Ok, Err}
 use Rattle.wy_top_answers.specs.Answers.{refused, told}
-use Rattle.wy_link_load.specs.Alone.{loads_alone}
+use Rattle.wy_top_probe.specs.wy_link_load.Alone.{loads_alone}
 use Rattle.wy_top_answers.specs.Steps.{Came, Sense, stated, due, Setting, and_then, both, done}
 use Rattle.wy_top_answers.specs.declared.answer.Answer.{Answer}
 use Rattle.wy_cert.specs.Steps.{Certificates}

@@ -5,9 +5,10 @@ use Rattle.wy_top.specs.Proofs.{proves_file}
 use Rattle.wy_top_answers.specs.Showing.{ShowsWhole, Sinks}
 use Rattle.wy_top_answers.specs.Steps.{Came, IsTold, Sense, Setting, answer_in, due}
 use Rattle.wy_top_answers.specs.declared.answer.Answer.{Answer}
-use Rattle.wy_top_words.specs.CommandLine.{Asked, check, run, prove, conds, fmt, dis, big}
+use Rattle.wy_top_words.specs.CommandLine.{Asked, check, run, prove, conds, fmt, dis, big, probe}
 use Rattle.wy_top.specs.Large.{big_steps}
 use Rattle.wy_top.specs.Launching.{run_steps}
+use Rattle.wy_top_probe.specs.Probing.{probe_steps}
 use Rattle.wy_top.specs.Runs.{Ran}
 use Rattle.wy_top.specs.Saves.{Saving}
 use Rattle.wy_top.specs.Statement.{Does}
@@ -41,6 +42,7 @@ IsExact (conds source) s status k = AnswersExactly s (text_steps s kind_of.Condi
 IsExact (fmt source) s status k = AnswersExactly s (text_steps s kind_of.Layout source) status k
 IsExact (dis source) s status k = AnswersExactly s (text_steps s kind_of.Listing source) status k
 IsExact (big functions seed budget steps) s status k = AnswersExactly s (big_steps s functions seed budget steps) status k
+IsExact (probe source name tuples ticks) s status k = AnswersExactly s (probe_steps s source name tuples ticks) status k
 
 -- whatever is asked for
 abbrev pub DoesExactly : Type 0

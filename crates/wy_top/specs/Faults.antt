@@ -1,6 +1,6 @@
 -- What faults of a text of a source are called, and where they stand.
 use Rattle.std.specs.Prelude.{ℕ, Bool, true, false, List, [], codes}
-use Rattle.wy_top_source.specs.texts.Refusals as refusals
+use Rattle.wy_top_probe.specs.wy_top_source.texts.Refusals as refusals
 use Rattle.wy_vc.specs.declared.fault.VcFault.{VcFault}
 use Rattle.wy_vc.specs.declared.fault.VcFault.TheVariants.{TooManyConds, TooManyTerms, NoMemory}
 use Rattle.wy_top.specs.declared.fault.OwedFault.{OwedFault}

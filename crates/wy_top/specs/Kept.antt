@@ -9,7 +9,7 @@ use Rattle.wy_top.specs.declared.judging.Judged.{Judged}
 use Rattle.wy_top.specs.declared.owing.Owed.{Owed}
 use Rattle.wy_top.specs.declared.proving.Proof.{Proof}
 use Rattle.wy_top_answers.specs.declared.answer.Answer.{Answer}
-use Rattle.wy_top_source.specs.wy_assign.Assigned.{IsAssigned}
+use Rattle.wy_top_probe.specs.wy_top_source.wy_assign.Assigned.{IsAssigned}
 use Rattle.wy_vc.specs.wy_vc_spec.Limits.{most_conditions}
 use Rattle.wy_cert.specs.Steps.{Certificates}
 use Rattle.wy_top.specs.Owed.{Owes, told_by}

@@ -10,7 +10,7 @@ use Rattle.wy_top_answers.specs.Texts.{of_file}
 use Rattle.wy_top_answers.specs.declared.answer.Answer.{Answer}
 use Rattle.wy_top_big.specs.Source.{argument_text, entry, source_of}
 use Rattle.wy_top_answers.specs.report.Lines.{steps_spent}
-use Rattle.wy_mach_run.specs.Running.{state_of, written}
+use Rattle.wy_top_probe.specs.wy_mach_run.Running.{state_of, written}
 use Rattle.wy_gen_sources.specs.wy_code_spec.step.Step as step
 use Rattle.wy_gen_sources.specs.wy_code_spec.step.Step.{State, Ended}
 use Rattle.wy_top_answers.specs.supplied.Certificates.{no_file}

@@ -5,9 +5,9 @@ use Rattle.wy_top_answers.specs.Calls.{Faults, called}
 use Rattle.wy_top_answers.specs.Steps.{Came, Sense, Setting, and_then}
 use Rattle.wy_core.specs.CoreTree.{Core}
 use Rattle.wy_top_answers.specs.report.Lines.{bad_argument, no_entry, other_count, other_type, requires_fails, turns_spent}
-use Rattle.wy_mach_run.specs.Starting.{IsRefused, Starts}
-use Rattle.wy_mach_run.specs.declared.fault.StartFault.{StartFault}
-use Rattle.wy_mach_run.specs.declared.fault.StartFault.TheVariants.{NoEntry, Argument, OtherCount, OtherType, RequiresFails, TurnsSpent, NoMemory}
+use Rattle.wy_top_probe.specs.wy_mach_run.Starting.{IsRefused, Starts}
+use Rattle.wy_top_probe.specs.wy_mach_run.declared.fault.StartFault.{StartFault}
+use Rattle.wy_top_probe.specs.wy_mach_run.declared.fault.StartFault.TheVariants.{NoEntry, Argument, OtherCount, OtherType, RequiresFails, TurnsSpent, NoMemory}
 use Rattle.wy_value.specs.declared.fault.ValueFault.{ValueFault}
 use Rattle.wy_value.specs.declared.fault.ValueFault.TheVariants as text
 use Rattle.wy_top.specs.declared.launching.Launch.{Launch}

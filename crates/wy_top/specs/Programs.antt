@@ -5,7 +5,7 @@ use Rattle.wy_top_answers.specs.Steps.{Came, Sense, stated, due}
 use Rattle.wy_core.specs.CoreTree.{Core}
 use Rattle.wy_core.specs.Types.{Ty}
 use Rattle.wy_top_answers.specs.wy_sound_terms.formed.OwedConditions.{owed_conditions}
-use Rattle.wy_link_load.specs.wy_parse_front.Places.{place_of}
+use Rattle.wy_top_probe.specs.wy_link_load.wy_parse_front.Places.{place_of}
 use Rattle.wy_top.specs.Faults.{is_no_memory, offset, word}
 use Rattle.wy_top.specs.Owed.{IsDue, IsOwed, IsRefused, Owes}
 use Rattle.wy_top.specs.declared.fault.OwedFault.{OwedFault}

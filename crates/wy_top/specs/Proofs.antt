@@ -1,7 +1,7 @@
 -- What does the command `prove` make of a source? The verdicts on its conditions, without certificates, and a file of those that it found.
 use Rattle.std.specs.Prelude.{◌≡◌, ◌⊎◌, ℕ, List, [], ◌∷◌, length, Bool, true, false, Ok, Err}
 use Rattle.wy_top_answers.specs.Answers.{refused, written}
-use Rattle.wy_link_load.specs.Alone.{IsAlone, loads_alone}
+use Rattle.wy_top_probe.specs.wy_link_load.Alone.{IsAlone, loads_alone}
 use Rattle.wy_top_answers.specs.Steps.{Came, Sense, stated, due, Setting, and_then}
 use Rattle.wy_top_answers.specs.Texts.{not_certified}
 use Rattle.wy_top_answers.specs.declared.answer.Answer.{Answer}

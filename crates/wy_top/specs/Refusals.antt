@@ -1,6 +1,6 @@
 -- The lines of a refusal.
 use Rattle.std.specs.Prelude.{ℕ, suc, List, [], ◌∷◌, ◌++◌, codes, length, map, Option, Some, None}
-use Rattle.wy_link_load.specs.wy_parse_front.Places.{place_of}
+use Rattle.wy_top_probe.specs.wy_link_load.wy_parse_front.Places.{place_of}
 use Rattle.wy_top_answers.specs.wy_check_spec.judge.Node.{Literal}
 use Rattle.wy_top_answers.specs.report.Lines.{invalid_step, open_condition, refused, spent_condition}
 use Rattle.wy_top_answers.specs.report.Listing.{formula_lines}

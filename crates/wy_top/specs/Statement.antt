@@ -7,9 +7,10 @@ use Rattle.wy_top_answers.specs.Showing.{Shown, Sinks}
 use Rattle.wy_top_answers.specs.Steps.{Answers, Came, Gives, Sense, Setting}
 use Rattle.wy_top_answers.specs.declared.answer.Answer.{Answer}
 use Rattle.wy_top_answers.specs.report.Lines.{words_refused}
-use Rattle.wy_top_words.specs.CommandLine.{Asked, check, run, prove, conds, fmt, dis, big, command_of}
+use Rattle.wy_top_words.specs.CommandLine.{Asked, check, run, prove, conds, fmt, dis, big, probe, command_of}
 use Rattle.wy_top.specs.Large.{big_steps}
 use Rattle.wy_top.specs.Launching.{run_steps}
+use Rattle.wy_top_probe.specs.Probing.{probe_steps}
 use Rattle.wy_top.specs.Runs.{Ran}
 use Rattle.wy_top.specs.Saves.{Saves, Saving}
 use Rattle.wy_top.specs.Texts.{text_steps}
@@ -59,6 +60,7 @@ Does (conds source) s v status k = IsAnswered s (text_steps s text.Conditions so
 Does (fmt source) s v status k = IsAnswered s (text_steps s text.Layout source) status k
 Does (dis source) s v status k = IsAnswered s (text_steps s text.Listing source) status k
 Does (big functions seed budget steps) s v status k = IsAnswered s (big_steps s functions seed budget steps) status k
+Does (probe source name tuples ticks) s v status k = IsAnswered s (probe_steps s source name tuples ticks) status k
 
 -- the name of the file that is saved
 abbrev pub saved_name : Option Asked → List ℕ

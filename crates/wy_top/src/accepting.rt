@@ -20,10 +20,10 @@ use std::alloc::Global;
 use wy_cert::Certs;
 use wy_data::Bytes;
 use wy_flow_spec::typing::Typed;
-use wy_link_load::load_alone;
 use wy_port::Files;
 use wy_top_answers::supplied::certificates;
 use wy_top_answers::{Answer, no_memory};
+use wy_top_probe::load_alone;
 
 /// A program for each condition of which a valid certificate was supplied, or the search closed all leaves.
 #[derive(Drop)]

@@ -4,7 +4,7 @@ ghost use Rattle.wy_gen_sources.specs.wy_code_spec.ints.Loadable.{IsLoadable};
 ghost use Rattle.wy_gen_sources.specs.wy_code_spec.compiled.Programs.{code_of};
 ghost use Rattle.wy_core.specs.CoreTree.{Core};
 ghost use Rattle.wy_core.specs.Types.{Ty};
-ghost use Rattle.wy_top_source.specs.texts.Sources.{IsProgram};
+ghost use Rattle.wy_top_probe.specs.wy_top_source.texts.Sources.{IsProgram};
 
 /// The code of the program that a source has is such as a machine takes.
 pub fn the_code_of_a_source_is_loadable()

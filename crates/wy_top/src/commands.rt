@@ -19,6 +19,7 @@ use std::alloc::Global;
 use wy_port::{Files, Sink};
 use wy_top_answers::report::words_refused;
 use wy_top_answers::{no_memory, refusal, show};
+use wy_top_probe::probe_answer;
 use wy_top_words::{Words, WordsFault, read_words};
 
 /// Does what `words` say, over `files`, and answers the exit status. Results go to `out`, refusals to `err`.
@@ -42,6 +43,7 @@ use wy_top_words::{Words, WordsFault, read_words};
 /// | 8 | the steps are spent |
 /// | 9 | want of memory |
 /// | 11 | the turns of the test of the arguments are spent |
+/// | 12 | a probe found arguments on which the program faults |
 /// | 13 | a condition was found and not certified: never seen |
 ///
 /// It runs accepted programs alone, and asks that these never lack a step.
@@ -139,6 +141,15 @@ fn perform<F: Files, O: Sink, E: Sink>(
             steps,
         } => {
             let answer = large(alloc, functions, seed, budget, steps, files);
+            show(&answer, out, err)
+        }
+        Words::Probe {
+            source,
+            name,
+            tuples,
+            ticks,
+        } => {
+            let answer = probe_answer(alloc, source, name, tuples, ticks, files);
             show(&answer, out, err)
         }
     }

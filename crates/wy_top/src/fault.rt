@@ -2,7 +2,7 @@
 ghost use Rattle.std.specs.Prelude.{◌≡◌};
 ghost use Rattle.wy_top.specs.Faults as spec;
 
-use wy_top_source::texts::Refusal;
+use wy_top_probe::Refusal;
 use wy_vc::VcFault;
 
 /// Why a source has no list of conditions.
@@ -19,7 +19,7 @@ pub fn is_no_memory(fault: OwedFault) -> bool
     ensures value { result ≡ spec.is_no_memory fault }
 {
     match fault {
-        OwedFault::Source(refusal) => wy_top_source::texts::is_no_memory(refusal),
+        OwedFault::Source(refusal) => wy_top_probe::is_no_memory(refusal),
         OwedFault::Limit(VcFault::NoMemory) => true,
         OwedFault::Limit(VcFault::TooManyConds | VcFault::TooManyTerms(_)) => false,
     }
@@ -30,7 +30,7 @@ pub fn offset(fault: OwedFault) -> u32
     ensures value { result ≡ spec.offset fault }
 {
     match fault {
-        OwedFault::Source(refusal) => wy_top_source::texts::offset(refusal),
+        OwedFault::Source(refusal) => wy_top_probe::offset(refusal),
         OwedFault::Limit(_) => 0,
     }
 }
@@ -40,7 +40,7 @@ pub fn word(fault: OwedFault) -> &'static str
     ensures value { result.now ≡ spec.word fault }
 {
     match fault {
-        OwedFault::Source(refusal) => wy_top_source::texts::word(refusal),
+        OwedFault::Source(refusal) => wy_top_probe::word(refusal),
         OwedFault::Limit(VcFault::TooManyConds) => "TooManyConds",
         OwedFault::Limit(VcFault::TooManyTerms(_)) => "TooManyTerms",
         OwedFault::Limit(VcFault::NoMemory) => "",

@@ -4,19 +4,19 @@ ghost use Rattle.std.specs.String.{string_bytes};
 ghost use Rattle.wy_top.specs.Kept.{IsWhole, acceptance_in};
 ghost use Rattle.wy_top_answers.specs.Calls.{AnswersFault};
 ghost use Rattle.wy_top_answers.specs.Steps.{During, Gives, Setting};
-ghost use Rattle.wy_mach_run.specs.Running.{CanRun};
+ghost use Rattle.wy_top_probe.specs.wy_mach_run.Running.{CanRun};
 ghost use Rattle.wy_top.specs.Going.{AcceptedRunsGo};
 ghost use Rattle.wy_top.specs.Launching as spec;
 
 use crate::accepting::{Accepted, accept_file};
 use std::alloc::{AllocError, Global};
 use wy_data::Bytes;
-use wy_mach_run::{Start, StartFault, start};
 use wy_port::Files;
 use wy_top_answers::report::{
     bad_argument, no_entry, other_count, other_type, requires_fails, turns_spent,
 };
 use wy_top_answers::{Answer, no_memory, refusal_behind};
+use wy_top_probe::{Start, StartFault, start};
 use wy_value::ValueFault;
 
 /// What a run starts with, and the lines that are written before it.

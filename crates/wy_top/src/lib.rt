@@ -14,9 +14,9 @@
 //!
 //! `commands` has the whole call, [`run_words`]: it reads the words and does what they ask for. `texts` has the commands that
 //! write a text of a source (`fmt`, `dis`, `conds`), `saving` the one that saves certificates, `launching` and `running` the
-//! one that runs a program, and `making` the one that makes a large program. What a call comes to, and what sinks and files show
-//! of it, is said in `specs/Statement`. It runs accepted programs alone, and asks that these never lack a step (`specs/Going`): a
-//! law on them stands above this crate.
+//! one that runs a program, and `making` the one that makes a large program; the one that looks for faults is in wy_top_probe.
+//! What a call comes to, and what sinks and files show of it, is said in `specs/Statement`. It runs accepted programs alone,
+//! and asks that these never lack a step (`specs/Going`): a law on them stands above this crate.
 //!
 //! `command_laws` says that it comes exactly where it is due, `verdict_laws` that there is one answer, and that where each
 //! condition is closed, all of them are true, `certificate_laws` what the certificates are that were found, and

@@ -15,10 +15,10 @@ use crate::writing::owed_text;
 use std::alloc::{AllocError, Global};
 use wy_data::Bytes;
 use wy_flow_spec::typing::Typed;
-use wy_link_load::locate;
 use wy_term::Conds;
 use wy_top_answers::report::source_fault;
 use wy_top_answers::{Answer, no_memory, refusal};
+use wy_top_probe::locate;
 
 /// A typed and assigned program, and the conditions that it owes.
 #[derive(Drop)]

@@ -21,11 +21,11 @@ use std::alloc::Global;
 use wy_cert::Certs;
 use wy_cert::writing::write_certs;
 use wy_data::Bytes;
-use wy_link_load::load_alone;
 use wy_port::Files;
 use wy_term::NoMemory;
 use wy_top_answers::report::accepted as accepted_line;
 use wy_top_answers::{Answer, no_memory, refusal};
+use wy_top_probe::load_alone;
 
 /// What `prove` saves, and what it answers behind the save.
 #[derive(Drop)]

@@ -1,7 +1,7 @@
 //! The conditions that the program of a source owes.
 ghost use Rattle.std.specs.Prelude.{◌≡◌, ◌<◌, ◌≤◌, ◌^◌, ℕ, List, All, length, map, false, IsTrue, IfOk, IfErr, MatchResult};
 ghost use Rattle.wy_check.specs.Within.{IsWithin};
-ghost use Rattle.wy_top_source.specs.wy_assign.Assigned.{IsAssigned};
+ghost use Rattle.wy_top_probe.specs.wy_top_source.wy_assign.Assigned.{IsAssigned};
 ghost use Rattle.wy_vc.specs.wy_vc_spec.Limits.{most_conditions};
 ghost use Rattle.wy_core.specs.CoreTree as tree;
 ghost use Rattle.wy_core.specs.Types as types;
@@ -10,7 +10,7 @@ ghost use Rattle.wy_top.specs.Faults.{is_no_memory};
 ghost use Rattle.wy_top.specs.Owed.{IsDue, IsRefused, Owes, told_by};
 ghost use Rattle.wy_top.specs.declared.fault.OwedFault.{OwedFault};
 ghost use Rattle.wy_top_answers.specs.wy_vc_laws.shown.Certified.{AreFormed};
-ghost use Rattle.wy_top_source.specs.texts.Sources.{IsFormed};
+ghost use Rattle.wy_top_probe.specs.wy_top_source.texts.Sources.{IsFormed};
 ghost use Rattle.wy_term.specs.Condition.{condition_of};
 ghost use Rattle.wy_flow_spec.specs.typing.TypedPrograms.{core_of, flow_of};
 ghost use Rattle.wy_vc.specs.Listed.{seen_conds};
@@ -19,7 +19,7 @@ use crate::fault::OwedFault;
 use std::alloc::Global;
 use wy_flow_spec::typing::Typed;
 use wy_term::Conds;
-use wy_top_source::texts::read_program;
+use wy_top_probe::read_program;
 use wy_vc::conditions;
 
 /// The typed and assigned program that the bytes spell, and the conditions that it owes, in order. The source is refused first; then

@@ -1,8 +1,8 @@
 //! The lines for conditions without a certificate.
 ghost use Rattle.std.specs.Prelude.{◌≡◌, ◌<◌, ◌^◌, ◌++◌, [], ℕ, List, length, map, IfOk, OnOk};
-ghost use Rattle.wy_link_load.specs.wy_parse_front.Places.{place_of};
+ghost use Rattle.wy_top_probe.specs.wy_link_load.wy_parse_front.Places.{place_of};
 ghost use Rattle.wy_prove.specs.wy_check_nodes.Seen.{seen_literal, AreOver};
-ghost use Rattle.wy_link_load.specs.wy_parse_front.lines.Starts.{AreLines};
+ghost use Rattle.wy_top_probe.specs.wy_link_load.wy_parse_front.lines.Starts.{AreLines};
 ghost use Rattle.wy_top.specs.Refusals as spec;
 ghost use Rattle.wy_top.specs.Sign.{sign_text};
 ghost use Rattle.wy_top_answers.specs.report.Lines as report;
@@ -17,11 +17,11 @@ ghost use Rattle.wy_top.specs.Seen.{known, NamesTerms, NameTerms, seen_end};
 use crate::counting::{spent, still_open};
 use crate::verdict::{End, Verdict};
 use std::alloc::Global;
-use wy_link_load::Lines;
 use wy_prove::{OpenLeaf, Why};
 use wy_term::{Cond, NoMemory, Terms};
 use wy_term_text::show::show_formula;
 use wy_top_answers::report::{open_condition, refused, spent_condition};
+use wy_top_probe::Lines;
 
 /// For each condition that is open, or whose budget of leaves is spent, its lines: where it stands in the source, its number from 1, its
 /// kind, and why it is open with the literals of its leaf, or the budget. The last line has how many conditions there are, how many are

@@ -1,20 +1,15 @@
 //! The commands that write a text of a source: `fmt`, `dis` and `conds`.
 ghost use Rattle.std.specs.Prelude.{◌≡◌, ◌≤◌, ◌<◌, ◌^◌, ℕ, List, length, IfOk};
-ghost use Rattle.std.specs.String.{string_bytes};
-ghost use Rattle.wy_top_answers.specs.Calls.{AnswersFault};
 ghost use Rattle.wy_top_answers.specs.Loading.{source_limit};
 ghost use Rattle.wy_top_answers.specs.Steps.{Answers, During, Gives, Setting};
-ghost use Rattle.wy_top_source.specs.texts.Refusals as refusals;
 ghost use Rattle.wy_top.specs.Texts as spec;
 
 use crate::owing::listed;
-use std::alloc::{AllocError, Global};
+use std::alloc::Global;
 use wy_data::Bytes;
-use wy_link_load::{load_alone, locate};
 use wy_port::Files;
-use wy_top_answers::report::source_fault;
-use wy_top_answers::{Answer, SOURCE_LIMIT, load, no_memory, refusal};
-use wy_top_source::texts::{Kind, Refusal, is_no_memory, offset, text_of, word};
+use wy_top_answers::{Answer, SOURCE_LIMIT, load};
+use wy_top_probe::{Kind, fault_answer, load_alone, text_of};
 
 /// A text of a source.
 #[derive(Clone, Copy, Debug)]
@@ -25,24 +20,6 @@ pub enum Text {
     Listing,
     /// The list of the conditions that the program owes.
     Conditions,
-}
-
-// The line of a fault, at its place in the source.
-fn fault_line(alloc: Global, name: &str, bytes: &[u8], fault: Refusal) -> Result<String, AllocError>
-    ensures value { IfOk result (λ s. string_bytes s ≡ spec.fault_lines name.now bytes.now fault) }
-{
-    let place = locate(bytes, offset(fault));
-    source_fault(alloc, name, place.line, place.column, word(fault))
-}
-
-// The answer to a fault.
-fn fault_answer(alloc: Global, name: &str, bytes: &[u8], fault: Refusal) -> Answer
-    ensures value { AnswersFault (refusals.is_no_memory fault) 1 (spec.fault_lines name.now bytes.now fault) result }
-{
-    if is_no_memory(fault) {
-        return no_memory(alloc);
-    }
-    refusal(alloc, 1, fault_line(alloc, name, bytes, fault))
 }
 
 // The text of the program, or the answer with the line of the first fault.

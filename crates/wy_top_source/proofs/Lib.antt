@@ -4,4 +4,6 @@ pub mod MemoryLemmas
 pub mod CoreLemmas
 -- one program, or one refusal behind its core
 pub mod ProgramLemmas
+-- one core
+pub mod OneLemmas
 pub mod texts_lemmas

@@ -61,3 +61,7 @@ IsEarly (Text fault) = ⊤
 IsEarly (Name fault) = ⊤
 IsEarly (Flow fault) = ⊥
 IsEarly (Assign fault) = ⊥
+
+-- the core of a program is the one that the bytes have
+abbrev pub HaveOneCore : Type 0
+HaveOneCore = (bytes : List ℕ) (core other : tree.Core ℕ) (flow own : List types.Ty) → IsProgram bytes core flow → IsProgram bytes other own → core ≡ other

@@ -112,6 +112,7 @@ no_operands k g e = ap (λ (os : List Text). asked k (record g { operands = os }
     go kind.Fmt = ap (option_map _) (none_both _)
     go kind.Dis = ap (option_map _) (none_both _)
     go kind.Big = none_both _
+    go kind.Probe = none_both _
 
 asked_given : (k : Kind) (g : Given) (rows : List Row) → Gives g rows → asked_with k rows ≡ asked k g
 asked_given k g rows h = go (all_of (codes "operands") rows) h.operands

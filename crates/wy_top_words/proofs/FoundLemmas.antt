@@ -66,3 +66,9 @@ named_kind m t rows k r named found kind is =
     is
     ∙ ap (option_and_then (λ (x : Kind). asked_with x rows)) kind
     ∙ sym (ap asked_by (both (λ b. (out-SubCommand (box_value b)).name.now) (λ b. rows_of (found_of (out-SubCommand (box_value b)).matches)) t rows (out-ArgMatches m).subcommand named found))
+
+pub named_none : (m : ArgMatches) (t : Text) (rows : List Row) → some_text t ≡ subcommand_name_of m
+    → some_rows rows ≡ option_map (λ (p : Text × List Row). p.1) (subcommand_rows_of m) → (let o : Option Kind = None in o ≡ kind_named t) → (let r : Option Asked = None in r ≡ asked_by (subcommand_rows_of m))
+named_none m t rows named found kind =
+    ap (option_and_then (λ (x : Kind). asked_with x rows)) kind
+    ∙ sym (ap asked_by (both (λ b. (out-SubCommand (box_value b)).name.now) (λ b. rows_of (found_of (out-SubCommand (box_value b)).matches)) t rows (out-ArgMatches m).subcommand named found))

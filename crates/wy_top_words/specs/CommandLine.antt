@@ -153,6 +153,8 @@ pub data Asked : Type 0 where
   dis : Text → Asked
   -- functions, seed, budget, steps
   big : ℕ → ℕ → ℕ → ℕ → Asked
+  -- source, name, tuples, ticks
+  probe : Text → Text → ℕ → ℕ → Asked
 
 abbrev pub one_of : List Text → Option Text
 one_of (a ∷ []) = Some a
@@ -186,6 +188,11 @@ big_asked g = if g.stats then None
     else option_and_then (λ p. option_and_then (λ f. option_and_then (λ s. option_and_then (λ n. option_map (λ m. big f s n m)
     (steps_within g.steps)) (budget_within g.budget)) (bounded 0 4294967295 p.1)) (bounded 1 500 p.0)) (two_of g.operands)
 
+-- from 1 to 1,000 tuples, and from 0 to 2,000 ticks
+abbrev pub probe_asked : Given → Option Asked
+probe_asked g = if is_some g.budget || (is_some g.steps || g.stats) then None
+    else option_and_then (λ p. option_and_then (λ n. option_map (λ k. probe p.0 p.1 n k) (bounded 0 2000 p.3)) (bounded 1 1000 p.2)) (four_of g.operands)
+
 abbrev pub asked : Kind → Given → Option Asked
 asked kind.Check g = check_asked g
 asked kind.Run g = run_asked g
@@ -194,12 +201,14 @@ asked kind.Conds g = option_map (λ t. conds t) (source_of g)
 asked kind.Fmt g = option_map (λ t. fmt t) (source_of g)
 asked kind.Dis g = option_map (λ t. dis t) (source_of g)
 asked kind.Big g = big_asked g
+asked kind.Probe g = probe_asked g
 
 abbrev pub other_kind_named : Text → Option Kind
 other_kind_named name = if bytes_eq (codes "conds") name then Some kind.Conds
     else (if bytes_eq (codes "fmt") name then Some kind.Fmt
     else (if bytes_eq (codes "dis") name then Some kind.Dis
-    else (if bytes_eq (codes "big") name then Some kind.Big else None)))
+    else (if bytes_eq (codes "big") name then Some kind.Big
+    else (if bytes_eq (codes "probe") name then Some kind.Probe else None))))
 
 abbrev pub kind_named : Text → Option Kind
 kind_named name = if bytes_eq (codes "check") name then Some kind.Check

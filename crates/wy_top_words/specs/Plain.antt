@@ -2,7 +2,7 @@
 use Rattle.std.specs.Prelude.{List, map, option_map, String, string_bytes}
 use Rattle.std.specs.Borrow.{Bor}
 use Rattle.std.specs.declared.alloc.Global.{Global}
-use Rattle.wy_top_words.specs.CommandLine.{Asked, Given, Text, check, run, prove, conds, fmt, dis, big}
+use Rattle.wy_top_words.specs.CommandLine.{Asked, Given, Text, check, run, prove, conds, fmt, dis, big, probe}
 use Rattle.wy_top_words.specs.declared.command.Words.{Words}
 use Rattle.wy_top_words.specs.declared.command.Words.TheVariants as words
 use Rattle.wy_top_words.specs.declared.command.Given.{Given as Slices}
@@ -34,3 +34,4 @@ asked_in (words.Conds source) = conds source.now
 asked_in (words.Fmt source) = fmt source.now
 asked_in (words.Dis source) = dis source.now
 asked_in (words.Big functions seed budget steps) = big functions seed budget steps
+asked_in (words.Probe source name tuples ticks) = probe source.now name.now tuples ticks

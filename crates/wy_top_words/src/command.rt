@@ -4,6 +4,7 @@ ghost use Rattle.wy_top_words.specs.CommandLine.{asked, big_asked, check_asked, 
 ghost use Rattle.wy_top_words.specs.Plain.{asked_in, given_in, text_in, texts_in};
 
 use crate::number::{budget_of, number_within, steps_of};
+use crate::probing::probe;
 
 /// A command, with the texts of its operands and the numbers of its options.
 #[derive(Clone, Copy, Debug, PartialEq, Eq)]
@@ -50,6 +51,13 @@ pub enum Words<'a> {
         budget: u64,
         steps: u64,
     },
+    /// A probe for faults of the function or method `name`, over so many tuples of arguments, each with so many ticks.
+    Probe {
+        source: &'a str,
+        name: &'a str,
+        tuples: u64,
+        ticks: u64,
+    },
 }
 
 /// Which command it is.
@@ -62,6 +70,7 @@ pub enum Kind {
     Fmt,
     Dis,
     Big,
+    Probe,
 }
 
 /// The command with this name.
@@ -90,6 +99,8 @@ fn other_kind(name: &str) -> Option<Kind>
         Some(Kind::Dis)
     } else if name == "big" {
         Some(Kind::Big)
+    } else if name == "probe" {
+        Some(Kind::Probe)
     } else {
         None
     }
@@ -125,6 +136,7 @@ pub fn meaning<'a, 'b>(kind: Kind, given: Given<'a, 'b>) -> Option<Words<'a>>
             None => None,
         },
         Kind::Big => big(given),
+        Kind::Probe => probe(given),
     }
 }
 
@@ -222,7 +234,7 @@ fn two<'a>(operands: &[&'a str]) -> Option<(&'a str, &'a str)>
     Some((*first, *second))
 }
 
-fn four<'a>(operands: &[&'a str]) -> Option<(&'a str, &'a str, &'a str, &'a str)>
+pub fn four<'a>(operands: &[&'a str]) -> Option<(&'a str, &'a str, &'a str, &'a str)>
     ensures value { option_map (λ p. (p.0.now, p.1.now, p.2.now, p.3.now)) result ≡ four_of (texts_in operands.now) }
 {
     let [first, second, third, fourth] = operands else {

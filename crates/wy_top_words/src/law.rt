@@ -1,6 +1,6 @@
 //! What small command lines mean.
 ghost use Rattle.std.specs.Prelude.{◌≡◌, ◌∷◌, [], None, Some, codes, false, true};
-ghost use Rattle.wy_top_words.specs.CommandLine.{big, check, command_of, conds, run};
+ghost use Rattle.wy_top_words.specs.CommandLine.{big, check, command_of, conds, probe, run};
 
 /// Options stand before, between and behind the operands, as two words or as one, each once at most, and `--` ends them.
 pub fn lines_mean()
@@ -25,6 +25,9 @@ pub fn lines_mean()
     ensures many { command_of (codes "big" ∷ codes "501" ∷ codes "7" ∷ []) ≡ None }
     ensures few { command_of (codes "big" ∷ codes "0" ∷ codes "7" ∷ []) ≡ None }
     ensures digits { command_of (codes "big" ∷ codes "00000000000001" ∷ codes "7" ∷ []) ≡ None }
+    ensures probed { command_of (codes "probe" ∷ codes "a" ∷ codes "f" ∷ codes "007" ∷ codes "2000" ∷ []) ≡ Some (probe (codes "a") (codes "f") 7 2000) }
+    ensures untried { command_of (codes "probe" ∷ codes "a" ∷ codes "f" ∷ codes "0" ∷ codes "9" ∷ []) ≡ None }
+    ensures long { command_of (codes "probe" ∷ codes "a" ∷ codes "f" ∷ codes "9" ∷ codes "2001" ∷ []) ≡ None }
     ensures nothing { command_of [] ≡ None }
     ensures other { command_of (codes "help" ∷ []) ≡ None }
 {}

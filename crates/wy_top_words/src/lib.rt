@@ -8,6 +8,7 @@ mod command;
 mod declared;
 mod law;
 mod number;
+mod probing;
 mod read;
 
 pub use command::Words;

@@ -1,5 +1,5 @@
 use Rattle.std.proofs.Common.{ℕ, List, subst}
-use Rattle.wy_link_load.specs.Alone.{loads_alone}
+use Rattle.wy_top_probe.specs.wy_link_load.Alone.{loads_alone}
 use Rattle.wy_top_answers.specs.Steps.{came, Gives}
 use Rattle.wy_top_answers.proofs.DuringLemmas.{during_first, during_second}
 use Rattle.wy_top_answers.proofs.StepLemmas.{goes, ends_there}

@@ -42,6 +42,11 @@ returns-in-Big-clause-does g c =
     let s = setting (g.F.Files.told c.args.files.now) (g.F.Files.load_faults c.args.files.now) (g.F.Files.load_faults c.large-answer.new.files) (g.F.Files.misses c.args.files.now) (g.F.Files.misses c.large-answer.new.files) in
     rw c.in-Big.is (record { answer = c.large-answer.result; answers = c.large-answer.ensures.answers s (during_itself _ _ _ _ _ c.large-answer.ensures.load_count c.large-answer.ensures.miss_count); shown = c.show-in-Big.ensures.shown })
 
+pub returns-in-Probe-clause-does : goal.returns-in-Probe-clause-does
+returns-in-Probe-clause-does g c =
+    let s = setting (g.F.Files.told c.args.files.now) (g.F.Files.load_faults c.args.files.now) (g.F.Files.load_faults c.probe_answer-answer.new.files) (g.F.Files.misses c.args.files.now) (g.F.Files.misses c.probe_answer-answer.new.files) in
+    rw c.in-Probe.is (record { answer = c.probe_answer-answer.result; answers = c.probe_answer-answer.ensures.answers s (during_itself _ _ _ _ _ c.probe_answer-answer.ensures.load_count c.probe_answer-answer.ensures.miss_count); shown = c.show-in-Probe.ensures.shown })
+
 pub returns-in-Ok-prove_file-clause-does : goal.returns-in-Ok-prove_file-clause-does
 returns-in-Ok-prove_file-clause-does g c =
     let s = setting (g.F.Files.told c.args.files.now) (g.F.Files.load_faults c.args.files.now) (g.F.Files.load_faults c.save.new.files) (g.F.Files.misses c.args.files.now) (g.F.Files.misses c.save.new.files) in

@@ -4,8 +4,8 @@ use Rattle.std.specs.String.{string_bytes}
 use Rattle.wy_top_answers.proofs.AnswerLemmas.{memory_answers}
 use Rattle.wy_port.specs.SinkInMemory.{SinkState}
 use Rattle.wy_top_answers.specs.report.Lines.{steps_spent}
-use Rattle.wy_mach_run.specs.Running.{state_of}
-use Rattle.wy_mach_run.specs.declared.end.RunEnd.{RunEnd}
+use Rattle.wy_top_probe.specs.wy_mach_run.Running.{state_of}
+use Rattle.wy_top_probe.specs.wy_mach_run.declared.end.RunEnd.{RunEnd}
 use Rattle.wy_top.specs.Large.{IsLine, finishes}
 use Rattle.wy_top.proofs.LargeLemmas.{GoesWith, end_answers}
 use Rattle.wy_top.proofs.making.finished.Goals as goal

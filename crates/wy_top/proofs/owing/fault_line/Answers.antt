@@ -2,7 +2,7 @@ use Rattle.std.proofs.Common.{◌≡◌, List, ℕ, subst}
 use Rattle.std.specs.Prelude.{IfOk}
 use Rattle.std.specs.String.{string_bytes}
 use Rattle.wy_top.specs.Faults.{offset, word}
-use Rattle.wy_top.proofs.PlaceLemmas.{located}
+use Rattle.wy_top_probe.proofs.PlaceLemmas.{located}
 use Rattle.wy_top.proofs.owing.fault_line.Goals as goal
 
 pub returns : goal.returns

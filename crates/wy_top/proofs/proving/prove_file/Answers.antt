@@ -1,8 +1,8 @@
 use Rattle.std.proofs.Common.{ℕ, List, subst}
 use Rattle.std.proofs.lemmas.Result.{IfOk-weaker}
 use Rattle.std.specs.Prelude.{IfOk}
-use Rattle.wy_link_load.specs.Alone.{loads_alone}
-use Rattle.wy_link_load.proofs.AloneLemmas.{takes_nothing}
+use Rattle.wy_top_probe.specs.wy_link_load.Alone.{loads_alone}
+use Rattle.wy_top_probe.proofs.wy_link_load_proofs.AloneLemmas.{takes_nothing}
 use Rattle.wy_top_answers.specs.Steps.{came, Gives}
 use Rattle.wy_top_answers.proofs.StepLemmas.{goes, ends_there, stated_value}
 use Rattle.wy_top.specs.Kept.{answer_in}

@@ -1,6 +1,6 @@
 use Rattle.std.proofs.Common.{◌∙◌, ◌++◌, ℕ, List, Bool, map, ap}
 use Rattle.std.proofs.lemmas.Result.{on_ok_weaker}
-use Rattle.wy_link_load.specs.wy_parse_front.Places.{place_of}
+use Rattle.wy_top_probe.specs.wy_link_load.wy_parse_front.Places.{place_of}
 use Rattle.wy_prove.specs.wy_check_nodes.Seen.{seen_literal}
 use Rattle.wy_prove.specs.Seen.{seen_why}
 use Rattle.wy_term.specs.Condition.{word_of}

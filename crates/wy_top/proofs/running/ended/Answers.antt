@@ -1,5 +1,5 @@
 use Rattle.std.proofs.Common.{◌∙◌, ℕ, List, inl, sym, subst}
-use Rattle.wy_mach_run.specs.declared.end.RunEnd.{RunEnd}
+use Rattle.wy_top_probe.specs.wy_mach_run.declared.end.RunEnd.{RunEnd}
 use Rattle.wy_top.specs.Runs.{EndsRun, Reports}
 use Rattle.wy_top.proofs.running.ended.Goals as goal
 

@@ -1,7 +1,7 @@
 use Rattle.std.proofs.Common.{◌∙◌, ℕ, List, [], inr, refl, sym, ap, subst}
 use Rattle.std.proofs.lemmas.List.{append-nil}
 use Rattle.wy_port.specs.Taken.{TookFront, with_taken}
-use Rattle.wy_mach_run.specs.Running.{state_of}
+use Rattle.wy_top_probe.specs.wy_mach_run.Running.{state_of}
 use Rattle.wy_top.specs.Runs.{no_memory, sink_failed}
 use Rattle.wy_top.proofs.RunLemmas.{ran_ends, writes_nothing}
 use Rattle.wy_top.proofs.running.run.Goals as goal

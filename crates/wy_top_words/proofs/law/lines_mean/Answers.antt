@@ -21,6 +21,9 @@ returns c = record {
   many = refl;
   few = refl;
   digits = refl;
+  probed = refl;
+  untried = refl;
+  long = refl;
   nothing = refl;
   other = refl;
 }

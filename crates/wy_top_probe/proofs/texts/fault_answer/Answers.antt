@@ -1,7 +1,7 @@
 use Rattle.std.proofs.Common.{◌∙◌, Bool, sym, subst}
 use Rattle.wy_top_answers.specs.Calls.{AnswersFault}
-use Rattle.wy_top.specs.Texts.{fault_lines}
-use Rattle.wy_top.proofs.texts.fault_answer.Goals as goal
+use Rattle.wy_top_probe.specs.Texts.{fault_lines}
+use Rattle.wy_top_probe.proofs.texts.fault_answer.Goals as goal
 
 pub returns : goal.returns
 returns c =

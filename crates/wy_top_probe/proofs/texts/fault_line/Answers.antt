@@ -2,8 +2,8 @@ use Rattle.std.proofs.Common.{◌≡◌, List, ℕ, subst}
 use Rattle.std.specs.Prelude.{IfOk}
 use Rattle.std.specs.String.{string_bytes}
 use Rattle.wy_top_source.specs.texts.Refusals.{offset, word}
-use Rattle.wy_top.proofs.PlaceLemmas.{located}
-use Rattle.wy_top.proofs.texts.fault_line.Goals as goal
+use Rattle.wy_top_probe.proofs.PlaceLemmas.{located}
+use Rattle.wy_top_probe.proofs.texts.fault_line.Goals as goal
 
 pub returns : goal.returns
 returns c =
