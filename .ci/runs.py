@@ -1,5 +1,7 @@
 """Plays the stored runs of `runs/` against a built program, some side by side: `runs.py PROGRAM [FOLDER ..]`.
 
+A call of `check` or `run` is played again by three workers, which is to give the same.
+
 Prints each difference, and in the last line how many cases passed. runs/README.md tells how a case is written.
 """
 import concurrent.futures
@@ -112,6 +114,12 @@ class Step:
             return f"{instructions} instructions for {self.ticks} ticks"
         return ""
 
+    def by_workers(self):
+        """The same call by three workers, if it is one that judges conditions and doesn't say by how many."""
+        if not self.words or self.words[0] not in ("check", "run") or any(it.startswith("--workers") for it in self.words):
+            return []
+        return [dataclasses.replace(self, words=[self.words[0], "--workers", "3", *self.words[1:]])]
+
     @staticmethod
     def found(path):
         if not os.path.isfile(path):
@@ -151,16 +159,17 @@ def failure(program, steps):
     with tempfile.TemporaryDirectory(prefix="wy-run-") as room:
         before = None
         for step in steps:
-            try:
-                result = step.play(program, room)
-            except subprocess.TimeoutExpired:
-                return f"took longer than {SECONDS} seconds"
-            why = step.differs(result, room)
-            if not why and step.is_same and result != before:
-                why = "the result isn't that of the call before"
-            if why:
-                return f"{shlex.join(step.words)[:200]}: {why}"
-            before = result
+            for call in [step, *step.by_workers()]:
+                try:
+                    result = call.play(program, room)
+                except subprocess.TimeoutExpired:
+                    return f"took longer than {SECONDS} seconds"
+                why = call.differs(result, room)
+                if not why and (call.is_same or call is not step) and result != before:
+                    why = "the result isn't that of the call before"
+                if why:
+                    return f"{shlex.join(call.words)[:200]}: {why}"
+                before = result
     return ""
 
 

@@ -23,10 +23,14 @@ const NO_MEMORY: u8 = 9;
 struct NoMemory;
 
 fn main(rt: HostRuntime) -> ExitCode {
-    match words(&rt) {
-        Ok(words) => ExitCode::from(status(&rt, &words)),
-        Err(NoMemory) => ExitCode::from(NO_MEMORY),
-    }
+    let Ok(words) = words(&rt) else {
+        return ExitCode::from(NO_MEMORY);
+    };
+    let mut files = DiskFiles::new(&rt);
+    let mut out = StdSink::new(rt.stdout());
+    let mut err = StdSink::new(rt.stderr());
+    let status = run_words(&rt, rt.alloc(), &words, &mut files, &mut out, &mut err);
+    ExitCode::from(status)
 }
 
 // The words behind the program's own name. Where one isn't text there are none, and so no command.
@@ -41,12 +45,4 @@ fn words(rt: &HostRuntime) -> Result<Vec<String>, NoMemory> {
         Ok(words) => Ok(words),
         Err(_) => Err(NoMemory),
     }
-}
-
-// The status for these words.
-fn status(rt: &HostRuntime, words: &[String]) -> u8 {
-    let mut files = DiskFiles::new(rt);
-    let mut out = StdSink::new(rt.stdout());
-    let mut err = StdSink::new(rt.stderr());
-    run_words(rt.alloc(), words, &mut files, &mut out, &mut err)
 }

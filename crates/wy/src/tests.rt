@@ -90,7 +90,7 @@ fn rows(rt: HostRuntime) -> Result<(), Fail> {
         let mut out = MemSink::new(alloc, out_room, 7, Vec::new(alloc))?;
         let mut err = MemSink::new(alloc, err_room, 7, Vec::new(alloc))?;
         let words = words_of(alloc, field(&mut fields))?;
-        let status = run_words(alloc, &words, &mut files, &mut out, &mut err);
+        let status = run_words(&rt, alloc, &words, &mut files, &mut out, &mut err);
         assert_eq!(rt; status as u32, number(&mut fields), "{}", row);
         assert_eq!(rt; out.bytes(), field(&mut fields).as_bytes(), "{}", row);
         assert_eq!(rt; err.bytes(), field(&mut fields).as_bytes(), "{}", row);
@@ -113,9 +113,33 @@ fn found_certificates_are_accepted(rt: HostRuntime) -> Result<(), Fail> {
     let mut err = MemSink::new(alloc, 4000, 99, Vec::new(alloc))?;
     for words in ["prove max.wy max.cert", "check max.wy max.cert --budget 0"] {
         let words = words_of(alloc, words)?;
-        let status = run_words(alloc, &words, &mut files, &mut out, &mut err);
+        let status = run_words(&rt, alloc, &words, &mut files, &mut out, &mut err);
         assert_eq!(rt; status, 0);
     }
     assert_eq!(rt; err.bytes(), b"".as_slice());
+    Ok(())
+}
+
+// What one worker finds and what eight find is saved as the same bytes, and accepted again.
+#[test]
+fn one_worker_and_eight_save_the_same(rt: HostRuntime) -> Result<(), Fail> {
+    let alloc = rt.alloc();
+    let all = short_files(alloc)?;
+    assert!(rt; have_different_names(&all));
+    let mut files = MemFiles::new(all, Vec::new(alloc));
+    let mut out = MemSink::new(alloc, 4000, 99, Vec::new(alloc))?;
+    let mut err = MemSink::new(alloc, 4000, 99, Vec::new(alloc))?;
+    for words in [
+        "prove max.wy one --workers 1",
+        "prove max.wy eight --workers=8",
+        "check max.wy eight --budget 0 --workers 3",
+    ] {
+        let words = words_of(alloc, words)?;
+        let status = run_words(&rt, alloc, &words, &mut files, &mut out, &mut err);
+        assert_eq!(rt; status, 0);
+    }
+    assert_eq!(rt; err.bytes(), b"".as_slice());
+    let one = files.bytes("one").unwrap_or(b"");
+    assert!(rt; !one.is_empty() && one == files.bytes("eight").unwrap_or(b""));
     Ok(())
 }

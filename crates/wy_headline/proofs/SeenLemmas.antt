@@ -21,7 +21,7 @@ use Rattle.wy_top.specs.wy_link_load.Alone.{loads_alone}
 use Rattle.wy_top.specs.wy_probe.Trials.{Finding, Faulted, Faultless}
 use Rattle.wy_top.proofs.wy_link_load_proofs.AnswerLemmas.{alone_covered}
 use Rattle.wy_top.specs.Acceptance.{Acceptance, accepts, accepts_file, accepts_source, are_closed, check_steps}
-use Rattle.wy_top.specs.Known.{Known}
+use Rattle.wy_top.specs.wy_batch.Known.{Known}
 use Rattle.wy_top.specs.Large.{large_name, makes_one}
 use Rattle.wy_top.specs.Launching.{fault_status, run_steps, starts}
 use Rattle.wy_top.specs.Probing.{IsProbed, enters, found_answer, probe_steps, reads}

@@ -9,12 +9,14 @@ ghost use Rattle.wy_top_words.specs.CommandLine.{command_of};
 ghost use Rattle.wy_top_words.specs.Plain.{words_in};
 
 use std::alloc::Global;
+use std::thread::Threads;
 use wy_port::{Files, Sink};
 
 /// Does what `words` say, over `files`, and answers the exit status: `run_words` of wy_top, with its promises. That asks that runs
 /// of accepted programs never lack a step, which they don't by the laws of soundness and of code. What it says of runs by the
 /// steps of the code is said here by the value semantics too.
-pub fn run_words<F: Files, O: Sink, E: Sink>(
+pub fn run_words<R: Threads + Sync, F: Files, O: Sink, E: Sink>(
+    rt: &R,
     alloc: Global,
     words: &[String],
     files: &mut F,
@@ -35,8 +37,15 @@ pub fn run_words<F: Files, O: Sink, E: Sink>(
         result
         (sinks (O.taken out.old) (O.taken out.new) (O.faults out.old) (O.faults out.new) (E.taken err.old) (E.taken err.new) (E.faults err.old) (E.faults err.new)) }
 
+    // What comes is what may come for any other words that ask for the same, by however many workers.
+    ensures workers { (others : List (List ℕ)) → command_of others ≡ command_of (words_in words.now) → Comes others
+        (setting (F.told files.old) (F.load_faults files.old) (F.load_faults files.new) (F.misses files.old) (F.misses files.new))
+        (saving (F.told files.old (saved_name (command_of (words_in words.now)))) (F.told files.new (saved_name (command_of (words_in words.now)))) (F.save_faults files.old) (F.save_faults files.new))
+        result
+        (sinks (O.taken out.old) (O.taken out.new) (O.faults out.old) (O.faults out.new) (E.taken err.old) (E.taken err.new) (E.faults err.old) (E.faults err.new)) }
+
     // No file is changed but the one that `prove` saves.
     ensures kept { (other : List ℕ) → IsKeptBy (command_of (words_in words.now)) other → F.told files.new other ≡ F.told files.old other }
 {
-    wy_top::run_words(alloc, words, files, out, err)
+    wy_top::run_words(rt, alloc, words, files, out, err)
 }

@@ -5,10 +5,11 @@ use Rattle.wy_lemmas.proofs.Choices.{true_false as never_both}
 use Rattle.wy_top.specs.Refusals.{invalid_lines}
 use Rattle.wy_top_answers.specs.wy_vc_laws.shown.Certified.{AreFormed, AllHold}
 use Rattle.wy_top_answers.specs.wy_vc_laws.shown.ReadSorted.{AreSortedCertificates}
-use Rattle.wy_top.specs.Known.{Known}
-use Rattle.wy_top.specs.Seen.{known}
-use Rattle.wy_top.specs.declared.verdict.Verdict.{Verdict}
-use Rattle.wy_top.proofs.ShownLemmas.{closed_is_true, one_list}
+use Rattle.wy_batch.specs.Known.{Known}
+use Rattle.wy_batch.specs.Seen.{known}
+use Rattle.wy_batch.specs.declared.verdict.Verdict.{Verdict}
+use Rattle.wy_batch.proofs.OneLemmas.{one_list}
+use Rattle.wy_top.proofs.ShownLemmas.{closed_is_true}
 use Rattle.wy_top_answers.specs.Answers.{refused, IsRefusal}
 use Rattle.wy_top_answers.specs.Steps.{Setting, Came, Gives, due}
 use Rattle.wy_top_answers.specs.declared.answer.Answer.{Answer}

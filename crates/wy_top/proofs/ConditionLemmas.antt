@@ -2,7 +2,7 @@
 use Rattle.std.proofs.Common.{◌≡◌, ◌∙◌, ◌<◌, ◌≤◌, ℕ, List, [], ◌∷◌, All, length, map, refl, sym, ap, subst, arith}
 use Rattle.std.proofs.lemmas.List.{length-map}
 use Rattle.std.proofs.lemmas.List.Elements.{All-cons, All-nil, All-weaker}
-use Rattle.wy_check.specs.Within.{IsWithin}
+use Rattle.wy_batch.specs.wy_check.Within.{IsWithin}
 use Rattle.wy_top_answers.proofs.wy_vc_laws_proofs.shown_lemmas.TruthLemmas.{premises_met}
 use Rattle.wy_vc.specs.wy_vc_spec.Limits as limits
 use Rattle.wy_vc.specs.wy_vc_spec.Numbered.{Node, numbered_core}

@@ -2,10 +2,10 @@
 use Rattle.std.proofs.Common.{◌≡◌, ◌∙◌, ◌<◌, ◌≤◌, ◌+◌, ℕ, zero, suc, List, [], ◌∷◌, length, drop, get_or, map, Bool, true, false, sym, ap, arith}
 use Rattle.std.specs.Prelude.{◌&&◌, if◌then◌else◌}
 use Rattle.std.proofs.lemmas.List.{drop_all}
-use Rattle.wy_top.specs.Known.{End, count}
-use Rattle.wy_top.specs.Acceptance.{are_closed, is_closed}
-use Rattle.wy_top.specs.Seen.{known, seen_end}
-use Rattle.wy_top.specs.declared.verdict.Verdict.{Verdict}
+use Rattle.wy_batch.specs.Known.{End, count, is_closed}
+use Rattle.wy_top.specs.Acceptance.{are_closed}
+use Rattle.wy_batch.specs.Seen.{known, seen_end}
+use Rattle.wy_batch.specs.declared.verdict.Verdict.{Verdict}
 
 -- the first of what is left
 at_drop : (xs : List Verdict) (i : ℕ) (x : Verdict) → i < length xs → x ≡ get_or xs i x → drop i xs ≡ x ∷ drop (i + 1) xs

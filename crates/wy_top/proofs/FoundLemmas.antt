@@ -15,11 +15,11 @@ use Rattle.wy_top_answers.specs.wy_check_spec.valid.Validity.{IsValid}
 use Rattle.wy_prove.specs.Answers.{AnswersWhatIsFound, HasUnwritable, IsFormedThroughout}
 use Rattle.wy_prove.specs.wy_search_spec.Tree as search
 use Rattle.wy_top.specs.Found.{AreFor, Begin, IsMore, IsOneMore, IsOwn, LacksOne}
-use Rattle.wy_top.specs.Known.{AreKnown, End, IsKnown, Known, end_of, found, is_found, spent, stays_open, supplied}
+use Rattle.wy_batch.specs.Known.{AreKnown, End, IsKnown, Known, end_of, found, is_found, spent, stays_open, supplied}
 use Rattle.wy_top.specs.Proofs.{LeavesOut}
-use Rattle.wy_top.specs.Seen.{known, seen_end}
-use Rattle.wy_top.specs.declared.verdict.End.{End as CodeEnd}
-use Rattle.wy_top.specs.declared.verdict.Verdict.{Verdict}
+use Rattle.wy_batch.specs.Seen.{known, seen_end}
+use Rattle.wy_batch.specs.declared.verdict.End.{End as CodeEnd}
+use Rattle.wy_batch.specs.declared.verdict.Verdict.{Verdict}
 
 -- ---- one condition
 

@@ -2,12 +2,12 @@
 use Rattle.std.proofs.Common.{◌≡◌, ◌∙◌, ◌<◌, ◌≤◌, ◌+◌, ℕ, suc, List, [], ◌∷◌, map, Bool, true, false, cond, Option, Some, None, refl, sym, ap, subst, arith}
 use Rattle.std.specs.Prelude.{◌==◌}
 use Rattle.std.proofs.lemmas.Bool.Decides.{nat_tests}
-use Rattle.wy_check.specs.Verdicts.{certificate_for, verdict_from, verdict_on, verdicts_on}
-use Rattle.wy_check.specs.declared.verdict.Verdict.{Verdict as Given}
+use Rattle.wy_batch.specs.wy_check.Verdicts.{certificate_for, verdict_from, verdict_on, verdicts_on}
+use Rattle.wy_batch.specs.wy_check.declared.verdict.Verdict.{Verdict as Given}
 use Rattle.wy_cert.specs.Steps.{Certificates, Written}
 use Rattle.wy_term.specs.Condition.{Condition}
 use Rattle.wy_top.specs.Found.{AreFor, AreRising, Begin, FoundIsGiven, given_by, given_in}
-use Rattle.wy_top.specs.Known.{End, Known, found, spent, stays_open, supplied}
+use Rattle.wy_batch.specs.Known.{End, Known, found, spent, stays_open, supplied}
 
 -- ---- rising numbers
 

@@ -3,9 +3,9 @@ use Rattle.std.proofs.Common.{◌≡◌, ◌∙◌, ◌<◌, ◌≤◌, ◌+◌,
 use Rattle.std.proofs.lemmas.List.{append-nil, drop_all}
 use Rattle.wy_lemmas.proofs.Lists.{next_of as at_drop}
 use Rattle.wy_top.specs.Refusals.{invalid_from, invalid_line}
-use Rattle.wy_top.specs.Known.{Known}
-use Rattle.wy_top.specs.Seen.{known}
-use Rattle.wy_top.specs.declared.verdict.Verdict.{Verdict}
+use Rattle.wy_batch.specs.Known.{Known}
+use Rattle.wy_batch.specs.Seen.{known}
+use Rattle.wy_batch.specs.declared.verdict.Verdict.{Verdict}
 
 -- one more condition
 pub invalid_more : (file : List ℕ) (xs : List Verdict) (i n : ℕ) (x : Verdict) (out new whole : List ℕ) → i < length xs → x ≡ get_or xs i x → n ≡ i + 1

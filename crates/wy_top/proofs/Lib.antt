@@ -4,8 +4,6 @@ pub mod OwedLemmas
 pub mod ConditionLemmas
 -- the text of what it owes
 pub mod ListLemmas
--- verdicts, one by one
-pub mod JudgedLemmas
 -- counts
 pub mod CountLemmas
 -- the laws
@@ -36,6 +34,7 @@ pub mod LargeLemmas
 pub mod SaveLemmas
 pub mod ExactLemmas
 -- passed on to the crates above
+pub use Rattle.wy_batch.proofs as wy_batch_proofs
 pub use Rattle.wy_gen_sources.proofs as wy_gen_sources_proofs
 pub use Rattle.wy_top_probe.proofs.wy_link_load_proofs as wy_link_load_proofs
 pub use Rattle.wy_top_probe.proofs.wy_mach_run_proofs as wy_mach_run_proofs

@@ -8,9 +8,9 @@ use Rattle.wy_top_answers.specs.report.Lines.{of_condition, open_condition, refu
 use Rattle.wy_term.specs.Nodes.{Plain}
 use Rattle.wy_term.specs.declared.cond.Cond.{Cond}
 use Rattle.wy_vc.specs.Told.{Told, seen_cond}
-use Rattle.wy_top.specs.Known.{Known, End, supplied, found, stays_open, spent, count, is_open, is_spent}
-use Rattle.wy_top.specs.Seen.{known, seen_end, NamesTerms, NameTerms}
-use Rattle.wy_top.specs.declared.verdict.Verdict.{Verdict}
+use Rattle.wy_batch.specs.Known.{Known, End, supplied, found, stays_open, spent, count, is_open, is_spent}
+use Rattle.wy_batch.specs.Seen.{known, seen_end, NamesTerms, NameTerms}
+use Rattle.wy_batch.specs.declared.verdict.Verdict.{Verdict}
 use Rattle.wy_top.specs.Refusals.{end_lines, lines_from, refusal_lines}
 
 -- the numbers that an end has are those of its terms

@@ -1,7 +1,7 @@
 -- The verdicts of `prove` as a step.
 use Rattle.std.proofs.Common.{◌≡◌, ◌∙◌, ◌<◌, ◌^◌, ℕ, List, [], length, Ok, Err, inl, inr, sym, ap, subst}
-use Rattle.wy_top.specs.Known.{Known}
-use Rattle.wy_top.proofs.ShownLemmas.{one_list}
+use Rattle.wy_batch.specs.Known.{Known}
+use Rattle.wy_batch.proofs.OneLemmas.{one_list}
 use Rattle.std.specs.Prelude.{IfErr, IfOk, IfSome, Option, Result, Some, map}
 use Rattle.wy_top_answers.specs.Answers.{IsRefusal, no_memory}
 use Rattle.wy_top_answers.specs.Steps.{Setting, Came, Gives, came, due, uncertified}
@@ -18,9 +18,9 @@ use Rattle.wy_top.specs.Found.{AreFor, LacksOne}
 use Rattle.wy_term.specs.Condition.{Condition, condition_of}
 use Rattle.wy_term.specs.declared.cond.Cond.{Cond}
 use Rattle.wy_top.specs.Kept.{answer_in}
-use Rattle.wy_top.specs.Seen.{known}
+use Rattle.wy_batch.specs.Seen.{known}
 use Rattle.wy_top.specs.declared.judging.Judged.{Judged}
-use Rattle.wy_top.specs.declared.verdict.Verdict.{Verdict}
+use Rattle.wy_batch.specs.declared.verdict.Verdict.{Verdict}
 use Rattle.wy_top.specs.Proofs.{IsProofFile, LeavesOut, judges, proof_answer}
 use Rattle.wy_top.specs.declared.proving.Proof.{Proof}
 use Rattle.wy_top.proofs.WritableLemmas.{found_is_read}

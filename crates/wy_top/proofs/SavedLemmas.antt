@@ -2,14 +2,14 @@
 use Rattle.std.proofs.Common.{◌≡◌, ◌+◌, ℕ, suc, List, [], ◌∷◌, map, true, None, refl, sym, ap, subst}
 use Rattle.wy_lemmas.proofs.Choices.{both_parts as both}
 use Rattle.wy_prove.specs.wy_search_spec.Tree as search
-use Rattle.wy_check.specs.Verdicts.{AreSupplied, verdicts_on}
-use Rattle.wy_check.specs.declared.verdict.Verdict.{Verdict as Given}
-use Rattle.wy_check.specs.declared.verdict.Verdict.TheVariants as accepting
+use Rattle.wy_batch.specs.wy_check.Verdicts.{AreSupplied, verdicts_on}
+use Rattle.wy_batch.specs.wy_check.declared.verdict.Verdict.{Verdict as Given}
+use Rattle.wy_batch.specs.wy_check.declared.verdict.Verdict.TheVariants as accepting
 use Rattle.wy_cert.specs.Steps.{Certificates}
 use Rattle.wy_term.specs.Condition.{Condition}
-use Rattle.wy_top.specs.Acceptance.{are_closed, is_closed}
+use Rattle.wy_top.specs.Acceptance.{are_closed}
 use Rattle.wy_top.specs.Found.{given_by, given_in}
-use Rattle.wy_top.specs.Known.{AreKnown, End, EndsSo, IsSearched, Known, bad_step_of, end_of, found, spent, stays_open, supplied}
+use Rattle.wy_batch.specs.Known.{AreKnown, is_closed, End, EndsSo, IsSearched, Known, bad_step_of, end_of, found, spent, stays_open, supplied}
 use Rattle.wy_top.specs.Programs.{conditions_of}
 use Rattle.wy_top.specs.Refusals.{invalid_from}
 use Rattle.wy_top.specs.Saved.{SavedIsAccepted}

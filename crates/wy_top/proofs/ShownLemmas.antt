@@ -1,13 +1,12 @@
--- What verdicts show, and that there is one list of them.
+-- What verdicts show.
 use Rattle.std.proofs.Common.{◌≡◌, ◌∙◌, ◌+◌, ℕ, List, [], ◌∷◌, Bool, true, false, cond, Option, Some, None, refl, sym, ap, subst}
 use Rattle.std.specs.Prelude.{◌==◌}
-use Rattle.wy_check.specs.Verdicts.{certificate_for, verdict_from, verdict_on}
-use Rattle.wy_check.specs.declared.verdict.Verdict.{Verdict as Given}
-use Rattle.wy_check.specs.declared.verdict.Verdict.TheVariants as given
+use Rattle.wy_batch.specs.wy_check.Verdicts.{certificate_for, verdict_from, verdict_on}
+use Rattle.wy_batch.specs.wy_check.declared.verdict.Verdict.{Verdict as Given}
+use Rattle.wy_batch.specs.wy_check.declared.verdict.Verdict.TheVariants as given
 use Rattle.wy_cert.specs.Steps.{Certificates, Written}
 use Rattle.wy_lemmas.proofs.Choices.{both_parts as both}
 use Rattle.wy_prove.specs.wy_search_spec.Tree as tree
-use Rattle.wy_prove.proofs.wy_search_spec_proofs.VerdictLemmas.{one_verdict}
 use Rattle.wy_top_answers.specs.wy_vc_laws.shown.Certified.{IsFormed}
 use Rattle.wy_top_answers.specs.wy_vc_laws.shown.ReadSorted.{AreSortedCertificates}
 use Rattle.wy_top_answers.proofs.wy_vc_laws_proofs.shown_lemmas.ReadLemmas.{reads_sorted}
@@ -16,8 +15,8 @@ use Rattle.wy_top_answers.proofs.wy_check_laws_proofs.sound_lemmas.SoundLemmas.{
 use Rattle.wy_term.specs.Condition.{Condition, HoldsAlways}
 use Rattle.wy_prove.proofs.wy_search_laws_proofs.sound_lemmas.FoundLemmas.{found_true}
 use Rattle.wy_top_answers.specs.wy_check_spec.valid.Validity.{first_bad}
-use Rattle.wy_top.specs.Acceptance.{are_closed, is_closed}
-use Rattle.wy_top.specs.Known.{End, EndsSo, IsKnown, IsSearched, Known, OneList, end_of, found, spent, stays_open, supplied}
+use Rattle.wy_top.specs.Acceptance.{are_closed}
+use Rattle.wy_batch.specs.Known.{is_closed, End, EndsSo, IsKnown, IsSearched, Known, end_of, found, spent, stays_open, supplied}
 use Rattle.wy_top.specs.Shown.{ClosedIsTrue, ReadIsTrue}
 
 -- ---- supplied certificates
@@ -86,26 +85,3 @@ closed_is_true certs budget n (c ∷ cs) (k ∷ ks) sorted formed h so_it_is =
 
 pub read_is_true : ReadIsTrue
 read_is_true conds bytes certs budget n cs ks reads formed h so_it_is = closed_is_true certs budget n cs ks (reads_sorted conds bytes certs reads) formed h so_it_is
-
--- ---- one list
-
-one_end : (c : Condition) (budget : ℕ) (g : Given) (e f : End) → EndsSo c budget g e → EndsSo c budget g f → e ≡ f
-one_end c budget given.Supplied e f a b = a ∙ sym b
-one_end c budget given.Missing e f a b = a.is ∙ ap end_of (one_verdict c budget a.verdict b.verdict a.searched b.searched) ∙ sym b.is
-one_end c budget (given.Bad step) e f a b = a.is ∙ ap end_of (one_verdict c budget a.verdict b.verdict a.searched b.searched) ∙ sym b.is
-
-abbrev told : Option ℕ → End → Known
-told bad e = record { bad_step = bad; end = e }
-
-one_known : (certs : Certificates) (budget n : ℕ) (c : Condition) (k l : Known) → IsKnown certs budget n c k → IsKnown certs budget n c l → k ≡ l
-one_known certs budget n c k l a b =
-    ap (λ (bad : Option ℕ). told bad k.end) (a.bad_step ∙ sym b.bad_step) ∙ ap (told l.bad_step) (one_end c budget (verdict_on c (certificate_for certs n)) k.end l.end a.end b.end)
-
-pub one_list : OneList
-one_list certs budget n [] [] [] a b = refl
-one_list certs budget n [] [] (l ∷ ls) a b = absurd b
-one_list certs budget n [] (k ∷ ks) ls a b = absurd a
-one_list certs budget n (c ∷ cs) [] ls a b = absurd a
-one_list certs budget n (c ∷ cs) (k ∷ ks) [] a b = absurd b
-one_list certs budget n (c ∷ cs) (k ∷ ks) (l ∷ ls) a b =
-    ap (λ (x : Known). x ∷ ks) (one_known certs budget n c k l a.0 b.0) ∙ ap (λ (xs : List Known). l ∷ xs) (one_list certs budget (n + 1) cs ks ls a.1 b.1)

@@ -10,7 +10,7 @@ use Rattle.wy_prove.proofs.wy_prove_writable_proofs.RereadLemmas.{written_is_rea
 use Rattle.wy_term.specs.Condition.{Condition}
 use Rattle.wy_prove.proofs.wy_prove_writable_proofs.TreeLemmas.{valid_is_one_tree}
 use Rattle.wy_top.specs.Found.{AreFor, Begin, Shows}
-use Rattle.wy_top.specs.Known.{End, Known, found, spent, stays_open, supplied}
+use Rattle.wy_batch.specs.Known.{End, Known, found, spent, stays_open, supplied}
 
 -- ---- certificates for conditions before one
 

@@ -10,15 +10,8 @@ use Rattle.wy_top.specs.Refusals.{invalid_lines, refusal_lines}
 use Rattle.wy_top_answers.specs.report.Lines.{accepted}
 use Rattle.wy_top_answers.specs.wy_vc_laws.shown.Certified.{AllHold}
 use Rattle.wy_top_answers.specs.supplied.Certificates.{certificates}
-use Rattle.wy_top.specs.Known.{Known, End, supplied, found, stays_open, spent, AreKnown}
+use Rattle.wy_batch.specs.Known.{Known, AreKnown, is_closed}
 use Rattle.wy_top.specs.Programs.{Program, conditions_of, count_of, owes}
-
--- a certificate that was supplied is valid, or the search closed all leaves
-abbrev pub is_closed : End → Bool
-is_closed supplied = true
-is_closed (found leaves) = true
-is_closed (stays_open leaf why literals) = false
-is_closed spent = false
 
 abbrev pub are_closed : List Known → Bool
 are_closed [] = true

@@ -2,14 +2,14 @@
 use Rattle.std.specs.Prelude.{◌≡◌, ◌⊎◌, ℕ, ◌≤◌, suc, List, [], ◌∷◌, ◌++◌, map, true, None}
 use Rattle.wy_cert.specs.Steps.{Certificates, Written}
 use Rattle.wy_prove.specs.wy_prove_writable.Writable.{AreWritable}
-use Rattle.wy_check.specs.Verdicts.{verdicts_on}
-use Rattle.wy_check.specs.declared.verdict.Verdict.{Verdict as Given}
-use Rattle.wy_check.specs.declared.verdict.Verdict.TheVariants as accepting
+use Rattle.wy_batch.specs.wy_check.Verdicts.{verdicts_on}
+use Rattle.wy_batch.specs.wy_check.declared.verdict.Verdict.{Verdict as Given}
+use Rattle.wy_batch.specs.wy_check.declared.verdict.Verdict.TheVariants as accepting
 use Rattle.wy_top_answers.specs.wy_check_laws.sound.Sortedness.{AreSortedSteps}
 use Rattle.wy_term.specs.Condition.{Condition}
 use Rattle.wy_top_answers.specs.wy_check_spec.valid.Validity.{IsValid}
 use Rattle.wy_prove.specs.Answers.{AnswersWhatIsFound}
-use Rattle.wy_top.specs.Known.{End, Known, found, is_found, spent, stays_open, supplied}
+use Rattle.wy_batch.specs.Known.{End, Known, found, is_found, spent, stays_open, supplied}
 
 -- the steps are a valid certificate for the condition, their terms are of the sorts of their places, and they can be written
 pub record Shows (c : Condition) (steps : List Written) : Type 0 where

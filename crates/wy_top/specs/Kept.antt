@@ -1,6 +1,6 @@
 -- What the code keeps of a program and of what it owes.
 use Rattle.std.specs.Prelude.{◌≡◌, ◌≤◌, ℕ, List, All, length, map}
-use Rattle.wy_check.specs.Within.{IsWithin}
+use Rattle.wy_batch.specs.wy_check.Within.{IsWithin}
 use Rattle.wy_prove.specs.Answers.{IsFormedThroughout}
 use Rattle.wy_top.specs.Acceptance.{Acceptance, AreVerdicts}
 use Rattle.wy_top.specs.Programs.{Program, conditions_of}
@@ -19,7 +19,7 @@ use Rattle.wy_term.specs.Nodes.{Plain}
 use Rattle.wy_flow_spec.specs.typing.TypedPrograms.{core_of, flow_of}
 use Rattle.wy_vc.specs.Listed.{seen_conds}
 use Rattle.wy_vc.specs.Told.{seen_cond}
-use Rattle.wy_top.specs.Seen.{NameTerms, known}
+use Rattle.wy_batch.specs.Seen.{NameTerms, known}
 
 -- the program that is kept
 abbrev pub program_in : Owed → Program

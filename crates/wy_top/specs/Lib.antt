@@ -3,11 +3,7 @@ pub mod Owed
 -- faults
 pub mod Faults
 -- what public contracts cite
-pub mod Known
-pub mod Seen
 pub mod Shown
--- what functions inside owe each other
-pub mod Judged
 -- what public contracts cite
 pub mod Refusals
 pub mod Found
@@ -34,8 +30,9 @@ pub mod Statement
 -- a law
 pub mod Exact
 -- passed on to the crates above
+pub use Rattle.wy_batch.specs as wy_batch
 pub use Rattle.wy_cert.specs as wy_cert
-pub use Rattle.wy_check.specs as wy_check
+pub use Rattle.wy_batch.specs.wy_check as wy_check
 pub use Rattle.wy_gen_sources.specs.wy_code_spec as wy_code_spec
 pub use Rattle.wy_top_probe.specs.wy_mach_run.wy_eval_exprs as wy_eval_exprs
 pub use Rattle.wy_gen_sources.specs.wy_gen_laws as wy_gen_laws

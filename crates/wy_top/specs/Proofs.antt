@@ -14,7 +14,7 @@ use Rattle.wy_top.specs.Owed.{Owes, told_by}
 use Rattle.wy_top.specs.Found.{AreFor}
 use Rattle.wy_top.specs.Refusals.{refusal_lines}
 use Rattle.wy_top_answers.specs.report.Lines.{accepted}
-use Rattle.wy_top.specs.Known.{Known, is_found}
+use Rattle.wy_batch.specs.Known.{Known, is_found}
 use Rattle.wy_top.specs.Acceptance.{AreVerdicts, are_closed}
 use Rattle.wy_top.specs.Programs.{Program, conditions_of, count_of, owes}
 

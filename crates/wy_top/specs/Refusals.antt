@@ -8,7 +8,7 @@ use Rattle.wy_prove.specs.wy_search_spec.Tree as search
 use Rattle.wy_term.specs.Condition.{word_of}
 use Rattle.wy_top_answers.specs.wy_check_spec.valid.Literals.{formula_of}
 use Rattle.wy_vc.specs.Told.{Told}
-use Rattle.wy_top.specs.Known.{End, supplied, found, stays_open, spent, Known, count, is_open, is_spent}
+use Rattle.wy_batch.specs.Known.{End, supplied, found, stays_open, spent, Known, count, is_open, is_spent}
 
 -- ---- certificates that aren't valid
 

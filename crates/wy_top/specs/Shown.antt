@@ -6,7 +6,7 @@ use Rattle.wy_cert.specs.File.{ReadsFile}
 use Rattle.wy_top_answers.specs.wy_vc_laws.shown.Certified.{AreFormed, AllHold}
 use Rattle.wy_top_answers.specs.wy_vc_laws.shown.ReadSorted.{AreSortedCertificates}
 use Rattle.wy_top.specs.Acceptance.{are_closed}
-use Rattle.wy_top.specs.Known.{AreKnown, Known}
+use Rattle.wy_batch.specs.Known.{AreKnown, Known}
 
 -- where for each condition a valid certificate was supplied, or its search closed all leaves, all of them are true, whatever their names stand for; of the certificates that were supplied it is asked that their terms are of the sorts of their places
 abbrev pub ClosedIsTrue : Type 0

@@ -9,7 +9,7 @@ ghost use Rattle.wy_cert.specs.Steps.{Certificates, NameTheirTerms, certificates
 ghost use Rattle.wy_top.specs.Owed.{told_by};
 ghost use Rattle.wy_top.specs.Refusals as refusals;
 ghost use Rattle.wy_top_answers.specs.wy_vc_laws.shown.ReadSorted.{AreSortedCertificates};
-ghost use Rattle.wy_top.specs.Seen.{known};
+ghost use Rattle.wy_batch.specs.Seen.{known};
 
 use crate::counting::are_closed;
 use crate::invalid::invalid_lines;
@@ -17,6 +17,7 @@ use crate::judging::{Judged, judge_all};
 use crate::owing::{Owed, owed_by};
 use crate::refusing::refusal_lines;
 use std::alloc::Global;
+use std::thread::Threads;
 use wy_cert::Certs;
 use wy_data::Bytes;
 use wy_flow_spec::typing::Typed;
@@ -99,38 +100,44 @@ fn accept(
 }
 
 // The program with these certificates.
-fn accept_on(
+fn accept_on<R: Threads + Sync>(
+    rt: &R,
     alloc: Global,
     name: &str,
     cert: &str,
     bytes: &[u8],
     budget: u64,
+    workers: u32,
     owed: Owed,
     certs: &Certs,
 ) -> Result<Accepted, Answer>
     requires kept { IsKept owed }
     requires names { NameTheirTerms certs.now }
     requires sorted { AreSortedCertificates (certificates_of certs.now) }
+    requires workers { (1 ≤ workers) × (workers ≤ 64) }
     ensures gives { (s : Setting) → Gives s (spec.accepts name.now cert.now bytes.now (program_in owed) (certificates_of certs.now) budget) (came acceptance_in result) }
     ensures whole { IfOk result IsWhole }
 {
-    match judge_all(alloc, owed, certs, budget) {
+    match judge_all(rt, alloc, owed, certs, budget, workers) {
         Ok(judged) => accept(alloc, name, cert, bytes, budget, judged),
         Err(answer) => Err(answer),
     }
 }
 
 // The program with the certificates that are named.
-fn accept_with<F: Files>(
+fn accept_with<R: Threads + Sync, F: Files>(
+    rt: &R,
     alloc: Global,
     name: &str,
     cert: &str,
     bytes: &[u8],
     budget: u64,
+    workers: u32,
     owed: Owed,
     files: &mut F,
 ) -> Result<Accepted, Answer>
     requires kept { IsKept owed }
+    requires workers { (1 ≤ workers) × (workers ≤ 64) }
     ensures gives { During (F.told files.old) (F.load_faults files.old) (F.load_faults files.new) (F.misses files.old) (F.misses files.new) (λ s. Gives s (spec.accepts_with s name.now cert.now budget bytes.now (program_in owed)) (came acceptance_in result)) }
     ensures whole { IfOk result IsWhole }
     ensures kept { (other : List ℕ) → F.told files.new other ≡ F.told files.old other }
@@ -140,22 +147,25 @@ fn accept_with<F: Files>(
 {
     let count = owed.conds.list.len() as u32;
     match certificates(alloc, cert, count, files) {
-        Ok(certs) => accept_on(alloc, name, cert, bytes, budget, owed, &certs),
+        Ok(certs) => accept_on(rt, alloc, name, cert, bytes, budget, workers, owed, &certs),
         Err(answer) => Err(answer),
     }
 }
 
 /// The program of the source with these bytes, where for each of its conditions the file `cert` has a valid certificate, or else
 /// its search closes all leaves, of which there are at most `budget`. Or the answer of why it isn't accepted.
-pub fn accept_source<F: Files>(
+pub fn accept_source<R: Threads + Sync, F: Files>(
+    rt: &R,
     alloc: Global,
     name: &str,
     cert: &str,
     bytes: &[u8],
     budget: u64,
+    workers: u32,
     files: &mut F,
 ) -> Result<Accepted, Answer>
-    requires { length bytes.now < 2 ^ 32 }
+    requires within { length bytes.now < 2 ^ 32 }
+    requires workers { (1 ≤ workers) × (workers ≤ 64) }
     ensures gives { During (F.told files.old) (F.load_faults files.old) (F.load_faults files.new) (F.misses files.old) (F.misses files.new) (λ s. Gives s (spec.accepts_source s name.now cert.now budget bytes.now) (came acceptance_in result)) }
     ensures whole { IfOk result IsWhole }
     ensures kept { (other : List ℕ) → F.told files.new other ≡ F.told files.old other }
@@ -164,19 +174,22 @@ pub fn accept_source<F: Files>(
     ensures save_count { F.save_faults files.new ≡ F.save_faults files.old }
 {
     match owed_by(alloc, name, bytes) {
-        Ok(owed) => accept_with(alloc, name, cert, bytes, budget, owed, files),
+        Ok(owed) => accept_with(rt, alloc, name, cert, bytes, budget, workers, owed, files),
         Err(answer) => Err(answer),
     }
 }
 
 /// Likewise for the source in a file, which imports nothing.
-pub fn accept_file<F: Files>(
+pub fn accept_file<R: Threads + Sync, F: Files>(
+    rt: &R,
     alloc: Global,
     name: &str,
     cert: &str,
     budget: u64,
+    workers: u32,
     files: &mut F,
 ) -> Result<Accepted, Answer>
+    requires workers { (1 ≤ workers) × (workers ≤ 64) }
     ensures gives { During (F.told files.old) (F.load_faults files.old) (F.load_faults files.new) (F.misses files.old) (F.misses files.new) (λ s. Gives s (spec.accepts_file s name.now cert.now budget) (came acceptance_in result)) }
     ensures whole { IfOk result IsWhole }
     ensures kept { (other : List ℕ) → F.told files.new other ≡ F.told files.old other }
@@ -185,7 +198,16 @@ pub fn accept_file<F: Files>(
     ensures save_count { F.save_faults files.new ≡ F.save_faults files.old }
 {
     match load_alone(alloc, name, files) {
-        Ok(bytes) => accept_source(alloc, name, cert, bytes.as_slice(), budget, files),
+        Ok(bytes) => accept_source(
+            rt,
+            alloc,
+            name,
+            cert,
+            bytes.as_slice(),
+            budget,
+            workers,
+            files,
+        ),
         Err(answer) => Err(answer),
     }
 }

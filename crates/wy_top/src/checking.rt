@@ -7,6 +7,7 @@ ghost use Rattle.wy_top_answers.specs.Steps.{Answers, During};
 
 use crate::accepting::{Accepted, accept_file};
 use std::alloc::Global;
+use std::thread::Threads;
 use wy_data::Bytes;
 use wy_port::Files;
 use wy_top_answers::report::accepted as accepted_line;
@@ -29,14 +30,23 @@ fn answer_of(alloc: Global, accepted: Accepted) -> Answer
 
 /// The answer of `check`: how many conditions the program of the source has, where each has a valid certificate, or why it
 /// isn't accepted.
-pub fn check<F: Files>(alloc: Global, name: &str, cert: &str, budget: u64, files: &mut F) -> Answer
+pub fn check<R: Threads + Sync, F: Files>(
+    rt: &R,
+    alloc: Global,
+    name: &str,
+    cert: &str,
+    budget: u64,
+    workers: u32,
+    files: &mut F,
+) -> Answer
+    requires workers { (1 ≤ workers) × (workers ≤ 64) }
     ensures answers { During (F.told files.old) (F.load_faults files.old) (F.load_faults files.new) (F.misses files.old) (F.misses files.new) (λ s. Answers s (spec.check_steps s name.now cert.now budget) result) }
     ensures kept { (other : List ℕ) → F.told files.new other ≡ F.told files.old other }
     ensures load_count { F.load_faults files.old ≤ F.load_faults files.new }
     ensures miss_count { F.misses files.old ≤ F.misses files.new }
     ensures save_count { F.save_faults files.new ≡ F.save_faults files.old }
 {
-    match accept_file(alloc, name, cert, budget, files) {
+    match accept_file(rt, alloc, name, cert, budget, workers, files) {
         Ok(accepted) => answer_of(alloc, accepted),
         Err(answer) => answer,
     }

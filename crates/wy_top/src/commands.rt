@@ -16,6 +16,7 @@ use crate::running::run;
 use crate::saving::save;
 use crate::texts::{Text, text_answer};
 use std::alloc::Global;
+use std::thread::Threads;
 use wy_port::{Files, Sink};
 use wy_top_answers::report::words_refused;
 use wy_top_answers::{no_memory, refusal, show};
@@ -46,8 +47,41 @@ use wy_top_words::{Words, WordsFault, read_words};
 /// | 12 | a probe found arguments on which the program faults |
 /// | 13 | a condition was found and not certified: never seen |
 ///
+/// Conditions are judged by as many workers as the words say, side by side in threads that `rt` starts. What comes doesn't depend on
+/// their number.
+///
 /// It runs accepted programs alone, and asks that these never lack a step.
-pub fn run_words<F: Files, O: Sink, E: Sink>(
+pub fn run_words<R: Threads + Sync, F: Files, O: Sink, E: Sink>(
+    rt: &R,
+    alloc: Global,
+    words: &[String],
+    files: &mut F,
+    out: &mut O,
+    err: &mut E,
+) -> u8
+    requires { AcceptedRunsGo }
+    ensures comes { Comes (words_in words.now)
+        (setting (F.told files.old) (F.load_faults files.old) (F.load_faults files.new) (F.misses files.old) (F.misses files.new))
+        (saving (F.told files.old (saved_name (command_of (words_in words.now)))) (F.told files.new (saved_name (command_of (words_in words.now)))) (F.save_faults files.old) (F.save_faults files.new))
+        result
+        (sinks (O.taken out.old) (O.taken out.new) (O.faults out.old) (O.faults out.new) (E.taken err.old) (E.taken err.new) (E.faults err.old) (E.faults err.new)) }
+
+    // What comes is what may come for any other words that ask for the same, by however many workers.
+    ensures workers { (others : List (List ℕ)) → command_of others ≡ command_of (words_in words.now) → Comes others
+        (setting (F.told files.old) (F.load_faults files.old) (F.load_faults files.new) (F.misses files.old) (F.misses files.new))
+        (saving (F.told files.old (saved_name (command_of (words_in words.now)))) (F.told files.new (saved_name (command_of (words_in words.now)))) (F.save_faults files.old) (F.save_faults files.new))
+        result
+        (sinks (O.taken out.old) (O.taken out.new) (O.faults out.old) (O.faults out.new) (E.taken err.old) (E.taken err.new) (E.faults err.old) (E.faults err.new)) }
+
+    // No file is changed but the one that `prove` saves.
+    ensures kept { (other : List ℕ) → IsKeptBy (command_of (words_in words.now)) other → F.told files.new other ≡ F.told files.old other }
+{
+    called(rt, alloc, words, files, out, err)
+}
+
+// The call, with what it comes to.
+fn called<R: Threads + Sync, F: Files, O: Sink, E: Sink>(
+    rt: &R,
     alloc: Global,
     words: &[String],
     files: &mut F,
@@ -65,7 +99,10 @@ pub fn run_words<F: Files, O: Sink, E: Sink>(
     ensures kept { (other : List ℕ) → IsKeptBy (command_of (words_in words.now)) other → F.told files.new other ≡ F.told files.old other }
 {
     match read_words(alloc, words) {
-        Ok(asked) => perform(alloc, asked, files, out, err),
+        Ok(ordered) => {
+            let workers = ordered.workers as u32;
+            perform(rt, alloc, ordered.words, workers, files, out, err)
+        }
         Err(WordsFault::Refused) => {
             let answer = refusal(alloc, 2, String::from_str(alloc, words_refused()));
             show(&answer, out, err)
@@ -78,14 +115,17 @@ pub fn run_words<F: Files, O: Sink, E: Sink>(
 }
 
 // Does what is asked for.
-fn perform<F: Files, O: Sink, E: Sink>(
+fn perform<R: Threads + Sync, F: Files, O: Sink, E: Sink>(
+    rt: &R,
     alloc: Global,
     asked: Words<'_>,
+    workers: u32,
     files: &mut F,
     out: &mut O,
     err: &mut E,
 ) -> u8
-    requires { AcceptedRunsGo }
+    requires goes { AcceptedRunsGo }
+    requires workers { (1 ≤ workers) × (workers ≤ 64) }
     ensures does { Does (asked_in asked.entry)
         (setting (F.told files.old) (F.load_faults files.old) (F.load_faults files.new) (F.misses files.old) (F.misses files.new))
         (saving (F.told files.old (saved_name (Some (asked_in asked.entry)))) (F.told files.new (saved_name (Some (asked_in asked.entry)))) (F.save_faults files.old) (F.save_faults files.new))
@@ -99,7 +139,7 @@ fn perform<F: Files, O: Sink, E: Sink>(
             certificates,
             budget,
         } => {
-            let answer = check(alloc, source, certificates, budget, files);
+            let answer = check(rt, alloc, source, certificates, budget, workers, files);
             show(&answer, out, err)
         }
         Words::Run {
@@ -110,7 +150,17 @@ fn perform<F: Files, O: Sink, E: Sink>(
             budget,
             steps,
             stats,
-        } => match launch_file(alloc, source, certificates, name, arguments, budget, files) {
+        } => match launch_file(
+            rt,
+            alloc,
+            source,
+            certificates,
+            name,
+            arguments,
+            budget,
+            workers,
+            files,
+        ) {
             Ok(launch) => run(alloc, &launch, steps, stats, out, err),
             Err(answer) => show(&answer, out, err),
         },
@@ -118,7 +168,7 @@ fn perform<F: Files, O: Sink, E: Sink>(
             source,
             output,
             budget,
-        } => match prove_file(alloc, source, budget, files) {
+        } => match prove_file(rt, alloc, source, budget, workers, files) {
             Ok(proof) => save(alloc, output, &proof, files, out, err),
             Err(answer) => show(&answer, out, err),
         },
@@ -140,7 +190,7 @@ fn perform<F: Files, O: Sink, E: Sink>(
             budget,
             steps,
         } => {
-            let answer = large(alloc, functions, seed, budget, steps, files);
+            let answer = large(rt, alloc, functions, seed, budget, workers, steps, files);
             show(&answer, out, err)
         }
         Words::Probe {

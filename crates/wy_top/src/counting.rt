@@ -1,10 +1,10 @@
 //! Counts of verdicts.
 ghost use Rattle.std.specs.Prelude.{◌≡◌, ◌<◌, ◌≤◌, ◌^◌, length, map};
 ghost use Rattle.wy_top.specs.Acceptance as acceptance;
-ghost use Rattle.wy_top.specs.Known as plain;
-ghost use Rattle.wy_top.specs.Seen as seen;
+ghost use Rattle.wy_batch.specs.Known as plain;
+ghost use Rattle.wy_batch.specs.Seen as seen;
 
-use crate::verdict::Verdict;
+use wy_batch::Verdict;
 
 /// How many conditions stay open.
 #[tactic(auto, using(crate::proofs::CountLemmas::count_steps))]

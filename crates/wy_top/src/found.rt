@@ -2,15 +2,15 @@
 ghost use Rattle.std.specs.Prelude.{◌≡◌, ◌<◌, ◌^◌, ℕ, All, None, true, length, map, IfOk, IfSome};
 ghost use Rattle.wy_cert.specs.Steps.{certificates_of, NameTheirTerms};
 ghost use Rattle.wy_prove.specs.Answers.{AnswersWhatIsFound, IsFormedThroughout};
-ghost use Rattle.wy_check.specs.Within.{IsWithin};
+ghost use Rattle.wy_batch.specs.wy_check.Within.{IsWithin};
 ghost use Rattle.wy_term.specs.Condition.{condition_of};
 ghost use Rattle.wy_term.specs.Nodes.{tree_at};
 ghost use Rattle.wy_top.specs.Found as spec;
-ghost use Rattle.wy_top.specs.Known.{is_found};
-ghost use Rattle.wy_top.specs.Seen.{known, seen_end};
+ghost use Rattle.wy_batch.specs.Known.{is_found};
+ghost use Rattle.wy_batch.specs.Seen.{known, seen_end};
 
-use crate::verdict::{End, Verdict};
 use std::alloc::Global;
+use wy_batch::{End, Verdict};
 use wy_cert::Certs;
 use wy_prove::certified;
 use wy_term::{Cond, NoMemory, Terms};

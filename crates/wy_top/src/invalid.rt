@@ -1,10 +1,10 @@
 //! The lines for certificates that aren't valid.
 ghost use Rattle.std.specs.Prelude.{◌≡◌, ◌<◌, ◌^◌, ◌++◌, length, map, IfOk, OnOk};
 ghost use Rattle.wy_top.specs.Refusals as spec;
-ghost use Rattle.wy_top.specs.Seen.{known};
+ghost use Rattle.wy_batch.specs.Seen.{known};
 
-use crate::verdict::Verdict;
 use std::alloc::Global;
+use wy_batch::Verdict;
 use wy_term::NoMemory;
 use wy_top_answers::report::invalid_step;
 

@@ -1,13 +1,13 @@
 //! The verdicts on what a program owes.
-ghost use Rattle.std.specs.Prelude.{◌≡◌, IfOk, IfErr};
+ghost use Rattle.std.specs.Prelude.{◌≡◌, ◌≤◌, IfOk, IfErr};
 ghost use Rattle.wy_top.specs.Kept.{AreEach, HasVerdicts, IsKept, program_in};
 ghost use Rattle.wy_top_answers.specs.Answers as answers;
 ghost use Rattle.wy_cert.specs.Steps.{NameTheirTerms, certificates_of};
 
-use crate::finding::judge;
 use crate::owing::Owed;
-use crate::verdict::Verdict;
 use std::alloc::Global;
+use std::thread::Threads;
+use wy_batch::{Verdict, judge};
 use wy_cert::Certs;
 use wy_flow_spec::typing::Typed;
 use wy_term::Conds;
@@ -22,16 +22,24 @@ pub struct Judged {
 }
 
 /// The verdicts on what the program owes, where these certificates are supplied, with searches of so many leaves; or want of
-/// memory. It takes what checking the certificates and searching the other conditions take.
-pub fn judge_all(alloc: Global, owed: Owed, certs: &Certs, budget: u64) -> Result<Judged, Answer>
+/// memory. It takes what checking the certificates and searching the other conditions take, shared by so many workers.
+pub fn judge_all<R: Threads + Sync>(
+    rt: &R,
+    alloc: Global,
+    owed: Owed,
+    certs: &Certs,
+    budget: u64,
+    workers: u32,
+) -> Result<Judged, Answer>
     requires kept { IsKept owed }
     requires names { NameTheirTerms certs.now }
+    requires workers { (1 ≤ workers) × (workers ≤ 64) }
     ensures verdicts { IfOk result (HasVerdicts (program_in owed) (certificates_of certs.now) budget) }
     ensures each { IfOk result AreEach }
     ensures memory { IfErr result (λ a. a ≡ answers.no_memory) }
 {
     let Owed { typed, mut conds } = owed;
-    match judge(alloc, &mut conds.terms, &conds.list, certs, budget) {
+    match judge(rt, alloc, &mut conds, certs, budget, workers) {
         Ok(verdicts) => Ok(Judged {
             typed,
             conds,

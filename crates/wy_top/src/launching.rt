@@ -10,6 +10,7 @@ ghost use Rattle.wy_top.specs.Launching as spec;
 
 use crate::accepting::{Accepted, accept_file};
 use std::alloc::{AllocError, Global};
+use std::thread::Threads;
 use wy_data::Bytes;
 use wy_port::Files;
 use wy_top_answers::report::{
@@ -109,16 +110,19 @@ pub fn launched(
 }
 
 /// What the run of the source in a file starts with, or the answer of why it doesn't start.
-pub fn launch_file<F: Files>(
+pub fn launch_file<R: Threads + Sync, F: Files>(
+    rt: &R,
     alloc: Global,
     source: &str,
     cert: &str,
     name: &str,
     arguments: &str,
     budget: u64,
+    workers: u32,
     files: &mut F,
 ) -> Result<Launch, Answer>
-    requires { AcceptedRunsGo }
+    requires goes { AcceptedRunsGo }
+    requires workers { (1 ≤ workers) × (workers ≤ 64) }
     ensures gives { During (F.told files.old) (F.load_faults files.old) (F.load_faults files.new) (F.misses files.old) (F.misses files.new) (λ s. Gives s (spec.run_steps s source.now cert.now name.now arguments.now budget) result) }
     ensures can { IfOk result (λ l. CanRun l.start) }
     ensures kept { (other : List ℕ) → F.told files.new other ≡ F.told files.old other }
@@ -126,7 +130,7 @@ pub fn launch_file<F: Files>(
     ensures miss_count { F.misses files.old ≤ F.misses files.new }
     ensures save_count { F.save_faults files.new ≡ F.save_faults files.old }
 {
-    match accept_file(alloc, source, cert, budget, files) {
+    match accept_file(rt, alloc, source, cert, budget, workers, files) {
         Ok(accepted) => launched(alloc, accepted, name, arguments),
         Err(answer) => Err(answer),
     }

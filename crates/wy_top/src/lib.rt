@@ -3,8 +3,8 @@
 //! What a source owes: `reading` reads the source and makes the conditions of its program, `listing` lists conditions, and
 //! `writing` lists those of a source. `fault` has why there are no conditions, with the word and the place.
 //!
-//! What is known of each condition: `verdict` has it, `finding` finds it, by a valid certificate that was supplied or else by a
-//! search, and `counting` counts. `invalid` has the lines for certificates that were supplied and aren't valid, `refusing` those
+//! What is known of each condition wy_batch finds, by a valid certificate that was supplied or else by a search, and `counting`
+//! counts. `invalid` has the lines for certificates that were supplied and aren't valid, `refusing` those
 //! for conditions that are open or whose budget is spent, with the sum, and `found` makes certificates for those that were found.
 //!
 //! From the file of a source to its acceptance: `owing` reads the typed program and what it owes. `judging` has the verdicts on
@@ -31,7 +31,6 @@ mod command_laws;
 mod commands;
 mod counting;
 mod fault;
-mod finding;
 mod found;
 mod invalid;
 mod judging;
@@ -45,7 +44,6 @@ mod refusing;
 mod running;
 mod saving;
 mod texts;
-mod verdict;
 mod verdict_laws;
 mod writing;
 
@@ -53,4 +51,5 @@ pub use certificate_laws::{found_certificates_are_valid, saved_certificates_are_
 pub use code_laws::the_code_of_a_source_is_loadable;
 pub use command_laws::commands_are_exact;
 pub use commands::run_words;
-pub use verdict_laws::{closed_conditions_hold, one_list};
+pub use verdict_laws::closed_conditions_hold;
+pub use wy_batch::one_list;

@@ -1,6 +1,6 @@
 //! The text of a list of conditions.
 ghost use Rattle.std.specs.Prelude.{◌≡◌, ◌<◌, ◌^◌, All, IfOk, OnOk, ◌++◌, ℕ, List, length, map};
-ghost use Rattle.wy_check.specs.Within.{IsWithin};
+ghost use Rattle.wy_batch.specs.wy_check.Within.{IsWithin};
 ghost use Rattle.wy_top_probe.specs.wy_link_load.wy_parse_front.lines.Starts.{AreLines};
 ghost use Rattle.wy_top_answers.specs.report.Shown.{AreShown};
 ghost use Rattle.wy_top.specs.Owed as spec;

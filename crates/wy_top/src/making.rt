@@ -10,6 +10,7 @@ ghost use Rattle.wy_top.specs.Large as spec;
 use crate::accepting::{Accepted, accept_source};
 use crate::launching::{Launch, launched};
 use std::alloc::{AllocError, Global};
+use std::thread::Threads;
 use wy_data::Bytes;
 use wy_port::{Files, MemSink};
 use wy_top_answers::report::steps_spent;
@@ -96,39 +97,45 @@ fn run_large(alloc: Global, functions: u32, seed: u32, steps: u64, accepted: Acc
 }
 
 // The answer where this is the source.
-fn accept_large<F: Files>(
+fn accept_large<R: Threads + Sync, F: Files>(
+    rt: &R,
     alloc: Global,
     functions: u32,
     seed: u32,
     budget: u64,
+    workers: u32,
     steps: u64,
     source: &[u8],
     files: &mut F,
 ) -> Answer
     requires within { length source.now < 2 ^ 32 }
     requires goes { AcceptedRunsGo }
+    requires workers { (1 ≤ workers) × (workers ≤ 64) }
     ensures answers { During (F.told files.old) (F.load_faults files.old) (F.load_faults files.new) (F.misses files.old) (F.misses files.new) (λ s. Answers s (spec.accepts_and_runs s functions seed budget steps source.now) result) }
     ensures kept { (other : List ℕ) → F.told files.new other ≡ F.told files.old other }
     ensures load_count { F.load_faults files.old ≤ F.load_faults files.new }
     ensures miss_count { F.misses files.old ≤ F.misses files.new }
     ensures save_count { F.save_faults files.new ≡ F.save_faults files.old }
 {
-    match accept_source(alloc, "big", "none", source, budget, files) {
+    match accept_source(rt, alloc, "big", "none", source, budget, workers, files) {
         Ok(accepted) => run_large(alloc, functions, seed, steps, accepted),
         Err(answer) => answer,
     }
 }
 
 // The answer with these numbers.
-fn large_of<F: Files>(
+fn large_of<R: Threads + Sync, F: Files>(
+    rt: &R,
     alloc: Global,
     functions: u32,
     seed: u32,
     budget: u64,
+    workers: u32,
     steps: u64,
     files: &mut F,
 ) -> Answer
-    requires { AcceptedRunsGo }
+    requires goes { AcceptedRunsGo }
+    requires workers { (1 ≤ workers) × (workers ≤ 64) }
     ensures answers { During (F.told files.old) (F.load_faults files.old) (F.load_faults files.new) (F.misses files.old) (F.misses files.new) (λ s. Answers s (spec.big_steps s functions seed budget steps) result) }
     ensures kept { (other : List ℕ) → F.told files.new other ≡ F.told files.old other }
     ensures load_count { F.load_faults files.old ≤ F.load_faults files.new }
@@ -137,10 +144,12 @@ fn large_of<F: Files>(
 {
     match made(alloc, functions, seed) {
         Ok(source) => accept_large(
+            rt,
             alloc,
             functions,
             seed,
             budget,
+            workers,
             steps,
             source.as_slice(),
             files,
@@ -161,15 +170,18 @@ fn narrowed(number: u64) -> Option<u32>
 
 /// The answer of `big`: a line with the number of functions, that of conditions, and what the last function gives; or why
 /// there is none.
-pub fn large<F: Files>(
+pub fn large<R: Threads + Sync, F: Files>(
+    rt: &R,
     alloc: Global,
     functions: u64,
     seed: u64,
     budget: u64,
+    workers: u32,
     steps: u64,
     files: &mut F,
 ) -> Answer
-    requires { AcceptedRunsGo }
+    requires goes { AcceptedRunsGo }
+    requires workers { (1 ≤ workers) × (workers ≤ 64) }
     ensures answers { During (F.told files.old) (F.load_faults files.old) (F.load_faults files.new) (F.misses files.old) (F.misses files.new) (λ s. Answers s (spec.big_steps s functions seed budget steps) result) }
     ensures kept { (other : List ℕ) → F.told files.new other ≡ F.told files.old other }
     ensures load_count { F.load_faults files.old ≤ F.load_faults files.new }
@@ -184,5 +196,5 @@ pub fn large<F: Files>(
         Some(seed) => seed,
         None => return no_memory(alloc),
     };
-    large_of(alloc, functions, seed, budget, steps, files)
+    large_of(rt, alloc, functions, seed, budget, workers, steps, files)
 }

@@ -10,7 +10,7 @@ ghost use Rattle.wy_top.specs.Proofs as spec;
 ghost use Rattle.wy_top_answers.specs.Steps.{During, Gives, Setting, came};
 ghost use Rattle.wy_cert.specs.writing.Text.{file_text};
 ghost use Rattle.wy_top.specs.Acceptance.{are_closed as are_closed_in};
-ghost use Rattle.wy_top.specs.Seen.{known};
+ghost use Rattle.wy_batch.specs.Seen.{known};
 
 use crate::counting::are_closed;
 use crate::found::found_certificates;
@@ -18,6 +18,7 @@ use crate::judging::{Judged, judge_all};
 use crate::owing::{Owed, owed_by};
 use crate::refusing::refusal_lines;
 use std::alloc::Global;
+use std::thread::Threads;
 use wy_cert::Certs;
 use wy_cert::writing::write_certs;
 use wy_data::Bytes;
@@ -123,46 +124,60 @@ fn made(
 }
 
 // The verdicts on the conditions that are owed, without certificates, and what is made of them.
-fn prove_on(
+fn prove_on<R: Threads + Sync>(
+    rt: &R,
     alloc: Global,
     name: &str,
     bytes: &[u8],
     budget: u64,
+    workers: u32,
     owed: Owed,
 ) -> Result<Proof, Answer>
     requires kept { IsKept owed }
+    requires workers { (1 ≤ workers) × (workers ≤ 64) }
     ensures gives { (s : Setting) → Gives s (spec.judges name.now bytes.now (program_in owed) budget) (came answer_in result) }
     ensures file { IfOk result (λ f. spec.IsProofFile (program_in owed) budget f.saved) }
 {
     let certs = Certs {
         list: Vec::new(alloc),
     };
-    match judge_all(alloc, owed, &certs, budget) {
+    match judge_all(rt, alloc, owed, &certs, budget, workers) {
         Ok(judged) => made(alloc, name, bytes, budget, judged),
         Err(answer) => Err(answer),
     }
 }
 
 // The same of the source with these bytes.
-fn prove_source(alloc: Global, name: &str, bytes: &[u8], budget: u64) -> Result<Proof, Answer>
-    requires { length bytes.now < 2 ^ 32 }
+fn prove_source<R: Threads + Sync>(
+    rt: &R,
+    alloc: Global,
+    name: &str,
+    bytes: &[u8],
+    budget: u64,
+    workers: u32,
+) -> Result<Proof, Answer>
+    requires within { length bytes.now < 2 ^ 32 }
+    requires workers { (1 ≤ workers) × (workers ≤ 64) }
     ensures gives { (s : Setting) → Gives s (spec.proves_source name.now budget bytes.now) (came answer_in result) }
     ensures file { IfOk result (λ f. spec.ProvesBytes bytes.now budget f.saved) }
 {
     match owed_by(alloc, name, bytes) {
-        Ok(owed) => prove_on(alloc, name, bytes, budget, owed),
+        Ok(owed) => prove_on(rt, alloc, name, bytes, budget, workers, owed),
         Err(answer) => Err(answer),
     }
 }
 
 /// The certificates that searches of so many leaves find for the program of the source in this file, as a file, and what is
 /// answered behind the save; or the answer with which the command ends before it.
-pub fn prove_file<F: Files>(
+pub fn prove_file<R: Threads + Sync, F: Files>(
+    rt: &R,
     alloc: Global,
     name: &str,
     budget: u64,
+    workers: u32,
     files: &mut F,
 ) -> Result<Proof, Answer>
+    requires workers { (1 ≤ workers) × (workers ≤ 64) }
     ensures gives { During (F.told files.old) (F.load_faults files.old) (F.load_faults files.new) (F.misses files.old) (F.misses files.new) (λ s. Gives s (spec.proves_file s name.now budget) (came answer_in result)) }
     ensures file { During (F.told files.old) (F.load_faults files.old) (F.load_faults files.new) (F.misses files.old) (F.misses files.new) (λ s. IfOk result (λ f. spec.Proves s name.now budget f.saved)) }
     ensures kept { (other : List ℕ) → F.told files.new other ≡ F.told files.old other }
@@ -171,7 +186,7 @@ pub fn prove_file<F: Files>(
     ensures save_count { F.save_faults files.new ≡ F.save_faults files.old }
 {
     match load_alone(alloc, name, files) {
-        Ok(bytes) => prove_source(alloc, name, bytes.as_slice(), budget),
+        Ok(bytes) => prove_source(rt, alloc, name, bytes.as_slice(), budget, workers),
         Err(answer) => Err(answer),
     }
 }

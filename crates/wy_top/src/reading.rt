@@ -1,6 +1,6 @@
 //! The conditions that the program of a source owes.
 ghost use Rattle.std.specs.Prelude.{◌≡◌, ◌<◌, ◌≤◌, ◌^◌, ℕ, List, All, length, map, false, IsTrue, IfOk, IfErr, MatchResult};
-ghost use Rattle.wy_check.specs.Within.{IsWithin};
+ghost use Rattle.wy_batch.specs.wy_check.Within.{IsWithin};
 ghost use Rattle.wy_top_probe.specs.wy_top_source.wy_assign.Assigned.{IsAssigned};
 ghost use Rattle.wy_vc.specs.wy_vc_spec.Limits.{most_conditions};
 ghost use Rattle.wy_core.specs.CoreTree as tree;

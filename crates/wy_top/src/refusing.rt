@@ -12,11 +12,11 @@ ghost use Rattle.wy_term.specs.Condition.{word_of};
 ghost use Rattle.wy_term.specs.Nodes.{Plain, tree_at};
 ghost use Rattle.wy_top_answers.specs.wy_check_spec.valid.Literals.{formula_of};
 ghost use Rattle.wy_vc.specs.Told.{seen_cond};
-ghost use Rattle.wy_top.specs.Seen.{known, NamesTerms, NameTerms, seen_end};
+ghost use Rattle.wy_batch.specs.Seen.{known, NamesTerms, NameTerms, seen_end};
 
 use crate::counting::{spent, still_open};
-use crate::verdict::{End, Verdict};
 use std::alloc::Global;
+use wy_batch::{End, Verdict};
 use wy_prove::{OpenLeaf, Why};
 use wy_term::{Cond, NoMemory, Terms};
 use wy_term_text::show::show_formula;

@@ -1,11 +1,5 @@
 //! What verdicts show.
-ghost use Rattle.wy_top.specs.Known.{OneList};
 ghost use Rattle.wy_top.specs.Shown.{ClosedIsTrue, ReadIsTrue};
-
-/// For these certificates, this list of conditions and this budget there is one list of what is known.
-pub fn one_list()
-    ensures one { OneList }
-{}
 
 /// Where for each condition of a list a valid certificate was supplied, or its search closed all leaves, all of them are true of all
 /// data and whole numbers.

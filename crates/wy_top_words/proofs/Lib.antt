@@ -7,3 +7,4 @@ pub mod TopLemmas
 pub mod NumberLemmas
 pub mod ReadLemmas
 pub mod FoundLemmas
+pub mod WorkerLemmas

@@ -58,7 +58,7 @@ module _ (name : Text) where
       go (Some s) c more = one_more (option_and_then closed (read s xs)) w x xs c.0 (more s c.1)
 
   nothing_holds : Holds nothing []
-  nothing_holds = record { operands = refl; budget = refl; steps = refl; stats = refl }
+  nothing_holds = record { operands = refl; budget = refl; steps = refl; workers = refl; stats = refl }
 
   -- the words behind a command
   pub reads_all : (words : List Text) → AreTexts words → Ends (given_by words) (walk_from nothing_held) words

@@ -1,5 +1,5 @@
 -- From what a parse promises to what the words ask for.
-use Rattle.std.proofs.Common.{◌≡◌, ◌∙◌, true, List, [], ◌∷◌, Option, None, inl, inr, sym, ap, subst}
+use Rattle.std.proofs.Common.{◌≡◌, ◌∙◌, true, List, [], ◌∷◌, Option, None, option_map, inl, inr, sym, ap, subst}
 use Rattle.std.specs.Prelude.{String}
 use Rattle.std.specs.declared.alloc.Global.{Global}
 use Rattle.std.proofs.lemmas.Str.{IsUtf8-string_bytes}
@@ -11,7 +11,7 @@ use Rattle.clap.specs.declared.error.Error.{Error}
 use Rattle.clap.specs.declared.error.kind.ErrorKind.{ErrorKind}
 use Rattle.clap.specs.declared.error.kind.ErrorKind.TheVariants.{OutOfMemory}
 use Rattle.clap.specs.declared.parser.matches.ArgMatches.{ArgMatches}
-use Rattle.wy_top_words.specs.CommandLine.{Asked, Text, command_of}
+use Rattle.wy_top_words.specs.CommandLine.{Order, Text, order_of}
 use Rattle.wy_top_words.specs.declared.read.WordsFault.{WordsFault}
 use Rattle.wy_top_words.specs.declared.read.WordsFault.TheVariants.{Refused, NoMemory}
 use Rattle.wy_top_words.specs.Line.{app}
@@ -29,8 +29,8 @@ all_text (w ∷ ws) = (IsUtf8-string_bytes w, all_text ws)
 pub ready : (a : App) → a ≡ app → is_simple_and_free a ≡ true
 ready a e = subst (λ (x : App). is_simple_and_free x ≡ true) (sym e) is_ready
 
-pub ok_reads : (a : App) (words : List Text) (m : ArgMatches) (r : Option Asked) → a ≡ app → AreTexts words → HasMatchesOf a words m
-    → fault_of a words ≡ [] → r ≡ asked_by (subcommand_rows_of m) → command_of words ≡ r
+pub ok_reads : (a : App) (words : List Text) (m : ArgMatches) (r : Option Order) → a ≡ app → AreTexts words → HasMatchesOf a words m
+    → fault_of a words ≡ [] → r ≡ asked_by (subcommand_rows_of m) → order_of words ≡ r
 ok_reads a words m r e us has free is =
     sym (line_taken words us (subst (λ (x : App). fault_of x words ≡ []) e free))
     ∙ sym (ap asked_by ((has (subst (λ (x : App). is_simple x ≡ true) (sym e) simple)).1 ∙ ap (λ (x : App). subcommand_of x words) e)) ∙ sym is
@@ -40,9 +40,13 @@ among_faulty k [] h = absurd h
 among_faulty k (x ∷ xs) h = tt
 
 pub err_refused : (a : App) (words : List Text) (e : Error) → a ≡ app → AreTexts words → HasKind (fault_of a words) e
-    → (kind_of e ≡ OutOfMemory → ⊥) → command_of words ≡ None
+    → (kind_of e ≡ OutOfMemory → ⊥) → order_of words ≡ None
 err_refused a words e is us (inl memory) other = absurd (other memory)
 err_refused a words e is us (inr among) other = line_refused words us (subst (λ (x : App). IsFaulty (fault_of x words)) is (among_faulty _ _ among))
+
+-- what an order asks for
+pub asked_alone : (o r : Option Order) → o ≡ r → option_map (λ (x : Order). x.asked) o ≡ option_map (λ (x : Order). x.asked) r
+asked_alone o r is = ap (option_map (λ (x : Order). x.asked)) is
 
 -- words that are refused aren't want of memory
 pub no_memory : (f : WordsFault) → f ≡ Refused → f ≡ NoMemory → ⊥

@@ -8,7 +8,7 @@ use Rattle.clap.specs.Kinds.{Kinds, or_else}
 use Rattle.clap.specs.Faults.{bundle_fault, bundle_step_fault, flag_word_fault, flags_fault, long_fault, positional_fault, settle_fault, step_fault, turn_fault, use_fault}
 use Rattle.clap.specs.declared.error.kind.ErrorKind.TheVariants.{ArgumentConflict}
 use Rattle.wy_lemmas.proofs.Choices.{and_false, or_none as or_false}
-use Rattle.wy_top_words.specs.CommandLine.{Given, Key, Mark, Reading, Text, awaited, budget, ends, key_met, mark_of, marked, operand, option, stats_met, steps, stray, turn, turn_by, with_operand, with_stats, with_value}
+use Rattle.wy_top_words.specs.CommandLine.{Given, Key, Mark, Reading, Text, awaited, budget, ends, key_met, mark_of, marked, operand, option, stats_met, steps, stray, turn, turn_by, with_operand, with_stats, with_value, workers}
 use Rattle.wy_top_words.specs.Rules.{leaf_shape, rules, stats, operands, valued}
 use Rattle.wy_top_words.proofs.RowLemmas.{has_row_all, push_other, push_same, set_other, set_same}
 use Rattle.wy_top_words.proofs.MarkLemmas.{Looks, looks, some_char}
@@ -29,6 +29,7 @@ second_faulty (k ∷ ks) b h = tt
 abbrev pub id_of : Key → Text
 id_of budget = codes "budget"
 id_of steps = codes "steps"
+id_of workers = codes "workers"
 
 abbrev pub flags : Bool → Option (List Text)
 flags true = Some (codes "true" ∷ [])
@@ -39,6 +40,7 @@ pub record Holds (g : Given) (rows : List Row) : Type 0 where
   pub operands : unwrap_or (all_of (codes "operands") rows) [] ≡ g.operands
   pub budget : all_of (codes "budget") rows ≡ option_map (λ t. t ∷ []) g.budget
   pub steps : all_of (codes "steps") rows ≡ option_map (λ t. t ∷ []) g.steps
+  pub workers : all_of (codes "workers") rows ≡ option_map (λ t. t ∷ []) g.workers
   pub stats : all_of (codes "stats") rows ≡ flags g.stats
 
 abbrev pub Pending : Type 0
@@ -104,6 +106,7 @@ pushed g rows w h = record {
   operands = ap (λ (o : Option (List Text)). unwrap_or o []) (push_same (codes "operands") _ _ (w ∷ []) refl rows) ∙ ap (λ (xs : List Text). xs ++ w ∷ []) h.operands;
   budget = push_other (codes "operands") (codes "budget") _ _ _ refl rows ∙ h.budget;
   steps = push_other (codes "operands") (codes "steps") _ _ _ refl rows ∙ h.steps;
+  workers = push_other (codes "operands") (codes "workers") _ _ _ refl rows ∙ h.workers;
   stats = push_other (codes "operands") (codes "stats") _ _ _ refl rows ∙ h.stats;
 }
 
@@ -125,6 +128,7 @@ budget_set g rows w h none = record {
   operands = ap (λ (o : Option (List Text)). unwrap_or o []) (set_other (codes "budget") (codes "operands") _ _ _ refl rows) ∙ h.operands;
   budget = set_same (codes "budget") _ _ (w ∷ []) refl rows none;
   steps = set_other (codes "budget") (codes "steps") _ _ _ refl rows ∙ h.steps;
+  workers = set_other (codes "budget") (codes "workers") _ _ _ refl rows ∙ h.workers;
   stats = set_other (codes "budget") (codes "stats") _ _ _ refl rows ∙ h.stats;
 }
 
@@ -134,7 +138,18 @@ steps_set g rows w h none = record {
   operands = ap (λ (o : Option (List Text)). unwrap_or o []) (set_other (codes "steps") (codes "operands") _ _ _ refl rows) ∙ h.operands;
   budget = set_other (codes "steps") (codes "budget") _ _ _ refl rows ∙ h.budget;
   steps = set_same (codes "steps") _ _ (w ∷ []) refl rows none;
+  workers = set_other (codes "steps") (codes "workers") _ _ _ refl rows ∙ h.workers;
   stats = set_other (codes "steps") (codes "stats") _ _ _ refl rows ∙ h.stats;
+}
+
+workers_set : (g : Given) (rows : List Row) (w : Text) → Holds g rows → has_row (codes "workers") rows ≡ false
+    → Holds (record g { workers = Some w }) (valued_rows workers w rows)
+workers_set g rows w h none = record {
+  operands = ap (λ (o : Option (List Text)). unwrap_or o []) (set_other (codes "workers") (codes "operands") _ _ _ refl rows) ∙ h.operands;
+  budget = set_other (codes "workers") (codes "budget") _ _ _ refl rows ∙ h.budget;
+  steps = set_other (codes "workers") (codes "steps") _ _ _ refl rows ∙ h.steps;
+  workers = set_same (codes "workers") _ _ (w ∷ []) refl rows none;
+  stats = set_other (codes "workers") (codes "stats") _ _ _ refl rows ∙ h.stats;
 }
 
 abbrev pub stats_rows : List Row → List Row
@@ -146,6 +161,7 @@ stats_set g rows h none = record {
   operands = ap (λ (o : Option (List Text)). unwrap_or o []) (set_other (codes "stats") (codes "operands") _ _ _ refl rows) ∙ h.operands;
   budget = set_other (codes "stats") (codes "budget") _ _ _ refl rows ∙ h.budget;
   steps = set_other (codes "stats") (codes "steps") _ _ _ refl rows ∙ h.steps;
+  workers = set_other (codes "stats") (codes "workers") _ _ _ refl rows ∙ h.workers;
   stats = set_same (codes "stats") _ _ (codes "true" ∷ []) refl rows none;
 }
 
@@ -281,23 +297,23 @@ module _ (name : Text) where
       (after_flag rules q word (long_met rules found v (held rows p)).0 (long_met rules found v (held rows p)).1).0
       (after_flag rules q word (long_met rules found v (held rows p)).0 (long_met rules found v (held rows p)).1).1
 
-  abbrev named : Bool → Bool → Bool → Option Rule
-  named b s t = cond b (Some (valued (codes "budget"))) (cond s (Some (valued (codes "steps"))) (cond t (Some stats) None))
+  abbrev named : Bool → Bool → Bool → Bool → Option Rule
+  named b s n t = cond b (Some (valued (codes "budget"))) (cond s (Some (valued (codes "steps"))) (cond n (Some (valued (codes "workers"))) (cond t (Some stats) None)))
 
-  named_is : (b s t : Bool) → cond (b || false) (Some (valued (codes "budget"))) (cond (s || false) (Some (valued (codes "steps"))) (cond (t || false) (Some stats) None)) ≡ named b s t
-  named_is b s t = λ i. named (or_false b i) (or_false s i) (or_false t i)
+  named_is : (b s n t : Bool) → cond (b || false) (Some (valued (codes "budget"))) (cond (s || false) (Some (valued (codes "steps"))) (cond (n || false) (Some (valued (codes "workers"))) (cond (t || false) (Some stats) None))) ≡ named b s n t
+  named_is b s n t = λ i. named (or_false b i) (or_false s i) (or_false n i) (or_false t i)
 
-  found_is : (n : Text) → arg_by_long rules n ≡ named (bytes_eq (codes "budget") n) (bytes_eq (codes "steps") n) (bytes_eq (codes "stats") n)
-  found_is n = named_is (bytes_eq (codes "budget") n) (bytes_eq (codes "steps") n) (bytes_eq (codes "stats") n)
+  found_is : (n : Text) → arg_by_long rules n ≡ named (bytes_eq (codes "budget") n) (bytes_eq (codes "steps") n) (bytes_eq (codes "workers") n) (bytes_eq (codes "stats") n)
+  found_is n = named_is (bytes_eq (codes "budget") n) (bytes_eq (codes "steps") n) (bytes_eq (codes "workers") n) (bytes_eq (codes "stats") n)
 
   option_turn : (rows : List Row) (p : Pending) (q : Waiting) (word n : Text) (v : Option Text) → Looks (option n v) word
       → turn_fault (leaf_shape name) [] (at rows p q false) word
-      ≡ found_fault rows p q word v (named (bytes_eq (codes "budget") n) (bytes_eq (codes "steps") n) (bytes_eq (codes "stats") n))
+      ≡ found_fault rows p q word v (named (bytes_eq (codes "budget") n) (bytes_eq (codes "steps") n) (bytes_eq (codes "workers") n) (bytes_eq (codes "stats") n))
   option_turn rows p q word n v l = turn_is rows p q word ∙ ap₂ (fault_by rows p q word) l.ends l.long ∙ ap (found_fault rows p q word v) (found_is n)
 
   option_walks : (rows : List Row) (p : Pending) (q : Waiting) (word n : Text) (v : Option Text) → Looks (option n v) word
       → walked rules [] (at rows p q false) word
-      ≡ found_walk rows p q word v (named (bytes_eq (codes "budget") n) (bytes_eq (codes "steps") n) (bytes_eq (codes "stats") n))
+      ≡ found_walk rows p q word v (named (bytes_eq (codes "budget") n) (bytes_eq (codes "steps") n) (bytes_eq (codes "workers") n) (bytes_eq (codes "stats") n))
   option_walks rows p q word n v l = walk_is rows p q word ∙ ap₂ (walk_by rows p q word) l.ends l.long ∙ ap (found_walk rows p q word v) (found_is n)
 
 -- ---- what a word comes to
@@ -344,6 +360,22 @@ set_comes steps r rows v w fault e h same walks = go (is_some r.given.steps) (no
         settles = record { free = refl; holds = steps_set r.given rows v h has };
       }),
     )
+set_comes workers r rows v w fault e h same walks = go (is_some r.given.workers) (no_row r.given.workers (codes "workers") rows h.workers)
+  where
+    go : (b : Bool) → has_row (codes "workers") rows ≡ b → Comes (cond b None (Some (record r { given = record r.given { workers = Some v }; awaits = None }))) fault w
+    go true has = inl (subst IsFaulty (sym (same ∙ ap again has)) tt)
+    go false has = (
+      same ∙ ap again has,
+      inl (record {
+        rows = valued_rows workers v rows;
+        pending = None;
+        waiting = idle;
+        is = walks ∙ ap (at (valued_rows workers v rows) None idle) (sym e);
+        awaits = refl;
+        plain = λ _. refl;
+        settles = record { free = refl; holds = workers_set r.given rows v h has };
+      }),
+    )
 
 -- a value that is pending
 wait_comes : (k : Key) (r : Reading) (rows : List Row) (v : Text) (w : Walk) (fault : Kinds) → r.ended ≡ false → Holds r.given rows
@@ -378,6 +410,22 @@ wait_comes steps r rows v w fault e h same walks = go (is_some r.given.steps) (n
         awaits = refl;
         plain = λ _. refl;
         settles = record { free = ap again has; holds = steps_set r.given rows v h has };
+      }),
+    )
+wait_comes workers r rows v w fault e h same walks = go (is_some r.given.workers) (no_row r.given.workers (codes "workers") rows h.workers)
+  where
+    go : (b : Bool) → has_row (codes "workers") rows ≡ b → Comes (cond b None (Some (record r { given = record r.given { workers = Some v }; awaits = None }))) fault w
+    go true has = inr (record { rows = rows; pending = Some (codes "workers", v ∷ []); waiting = idle; ended = false; is = walks; plain = λ _. refl; faulty = subst IsFaulty (sym (ap again has)) tt })
+    go false has = (
+      same,
+      inl (record {
+        rows = rows;
+        pending = Some (codes "workers", v ∷ []);
+        waiting = idle;
+        is = walks ∙ ap (at rows (Some (codes "workers", v ∷ [])) idle) (sym e);
+        awaits = refl;
+        plain = λ _. refl;
+        settles = record { free = ap again has; holds = workers_set r.given rows v h has };
       }),
     )
 
@@ -415,32 +463,37 @@ awaiting k r rows p w fault e s same walks = (
 
 module _ (name : Text) where
   option_comes : (r : Reading) (rows : List Row) (p : Pending) (q : Waiting) (word : Text) (v : Option Text) (w : Walk) (fault : Kinds)
-      → r.ended ≡ false → r.awaits ≡ None → Settles r.given rows p → (b s t : Bool)
-      → fault ≡ found_fault name rows p q word v (named name b s t) → w ≡ found_walk name rows p q word v (named name b s t)
-      → Comes (cond b (key_met budget v r) (cond s (key_met steps v r) (cond t (stats_met v r) None))) fault w
-  option_comes r rows p q word (Some v) w fault e a st true s t same walks =
+      → r.ended ≡ false → r.awaits ≡ None → Settles r.given rows p → (b s n t : Bool)
+      → fault ≡ found_fault name rows p q word v (named name b s n t) → w ≡ found_walk name rows p q word v (named name b s n t)
+      → Comes (cond b (key_met budget v r) (cond s (key_met steps v r) (cond n (key_met workers v r) (cond t (stats_met v r) None)))) fault w
+  option_comes r rows p q word (Some v) w fault e a st true s n t same walks =
       set_comes budget r (settled_rows rules p rows) v w fault e st.holds (same ∙ used_after rows p _ st.free) walks
-  option_comes r rows p q word (Some v) w fault e a st false true t same walks =
+  option_comes r rows p q word (Some v) w fault e a st false true n t same walks =
       set_comes steps r (settled_rows rules p rows) v w fault e st.holds (same ∙ used_after rows p _ st.free) walks
-  option_comes r rows p q word (Some v) w fault e a st false false true same walks = inl (subst IsFaulty (sym same) tt)
-  option_comes r rows p q word (Some v) w fault e a st false false false same walks = inl (subst IsFaulty (sym same) tt)
-  option_comes r rows p q word None w fault e a st true s t same walks = awaiting budget r rows p w fault e st same walks
-  option_comes r rows p q word None w fault e a st false true t same walks = awaiting steps r rows p w fault e st same walks
-  option_comes r rows p q word None w fault e a st false false true same walks =
+  option_comes r rows p q word (Some v) w fault e a st false false true t same walks =
+      set_comes workers r (settled_rows rules p rows) v w fault e st.holds (same ∙ used_after rows p _ st.free) walks
+  option_comes r rows p q word (Some v) w fault e a st false false false true same walks = inl (subst IsFaulty (sym same) tt)
+  option_comes r rows p q word (Some v) w fault e a st false false false false same walks = inl (subst IsFaulty (sym same) tt)
+  option_comes r rows p q word None w fault e a st true s n t same walks = awaiting budget r rows p w fault e st same walks
+  option_comes r rows p q word None w fault e a st false true n t same walks = awaiting steps r rows p w fault e st same walks
+  option_comes r rows p q word None w fault e a st false false true t same walks = awaiting workers r rows p w fault e st same walks
+  option_comes r rows p q word None w fault e a st false false false true same walks =
       stats_comes r (settled_rows rules p rows) w fault e a st.holds (same ∙ used_after rows p _ st.free) walks
-  option_comes r rows p q word None w fault e a st false false false same walks = inl (subst IsFaulty (sym same) tt)
+  option_comes r rows p q word None w fault e a st false false false false same walks = inl (subst IsFaulty (sym same) tt)
 
   -- an option where what is pending fails
   option_faulty : (rows : List Row) (p : Pending) (q : Waiting) (word : Text) (v : Option Text) → IsFaulty (settle_fault rules false (held rows p))
-      → (b s t : Bool) → IsFaulty (found_fault name rows p q word v (named name b s t))
-  option_faulty rows p q word (Some v) f true s t = first_faulty _ _ (first_faulty _ _ f)
-  option_faulty rows p q word (Some v) f false true t = first_faulty _ _ (first_faulty _ _ f)
-  option_faulty rows p q word (Some v) f false false true = tt
-  option_faulty rows p q word (Some v) f false false false = tt
-  option_faulty rows p q word None f true s t = first_faulty _ _ f
-  option_faulty rows p q word None f false true t = first_faulty _ _ f
-  option_faulty rows p q word None f false false true = first_faulty _ _ (first_faulty _ _ f)
-  option_faulty rows p q word None f false false false = tt
+      → (b s n t : Bool) → IsFaulty (found_fault name rows p q word v (named name b s n t))
+  option_faulty rows p q word (Some v) f true s n t = first_faulty _ _ (first_faulty _ _ f)
+  option_faulty rows p q word (Some v) f false true n t = first_faulty _ _ (first_faulty _ _ f)
+  option_faulty rows p q word (Some v) f false false true t = first_faulty _ _ (first_faulty _ _ f)
+  option_faulty rows p q word (Some v) f false false false true = tt
+  option_faulty rows p q word (Some v) f false false false false = tt
+  option_faulty rows p q word None f true s n t = first_faulty _ _ f
+  option_faulty rows p q word None f false true n t = first_faulty _ _ f
+  option_faulty rows p q word None f false false true t = first_faulty _ _ f
+  option_faulty rows p q word None f false false false true = first_faulty _ _ (first_faulty _ _ f)
+  option_faulty rows p q word None f false false false false = tt
 
   open_mark : (r : Reading) (rows : List Row) (p : Pending) (q : Waiting) (word : Text) → IsUtf8 word → r.ended ≡ false → r.awaits ≡ None
       → is_plain q ≡ true → Settles r.given rows p → (m : Mark) → Looks m word
@@ -449,7 +502,7 @@ module _ (name : Text) where
       let t = ends_turn name rows p q word l in
       (t.0, inl (record { rows = rows; pending = p; waiting = q; is = t.1; awaits = a; plain = λ x. absurd (true≢false x); settles = st }))
   open_mark r rows p q word u e a plain st (option n v) l = option_comes r rows p q word v _ _ e a st (bytes_eq (codes "budget") n)
-      (bytes_eq (codes "steps") n) (bytes_eq (codes "stats") n) (option_turn name rows p q word n v l) (option_walks name rows p q word n v l)
+      (bytes_eq (codes "steps") n) (bytes_eq (codes "workers") n) (bytes_eq (codes "stats") n) (option_turn name rows p q word n v l) (option_walks name rows p q word n v l)
   open_mark r rows p q word u e a plain st stray l = inl (stray_turn name rows p q word u l)
   open_mark r rows p q word u e a plain st operand l = opened r rows p q false word _ _ e a st
       (operand_turn name rows p q word l ∙ plain_fault name rows p q word plain) (operand_walks name rows p q word l ∙ plain_walk name rows p q word plain)
@@ -472,15 +525,18 @@ module _ (name : Text) where
   pub missing : (k : Key) (rows : List Row) → IsFaulty (settle_fault rules false (held rows (Some (id_of k, []))))
   missing budget rows = tt
   missing steps rows = tt
+  missing workers rows = tt
 
   value_fault : (k : Key) (rows : List Row) (word : Text) → other_fault name rows (Some (id_of k, [])) (waits_for (id_of k)) word None ≡ []
   value_fault budget rows word = refl
   value_fault steps rows word = refl
+  value_fault workers rows word = refl
 
   value_walk : (k : Key) (rows : List Row) (word : Text)
       → other_walk name rows (Some (id_of k, [])) (waits_for (id_of k)) word None ≡ at rows (Some (id_of k, word ∷ [])) idle false
   value_walk budget rows word = refl
   value_walk steps rows word = refl
+  value_walk workers rows word = refl
 
   waiting_mark : (r : Reading) (k : Key) (rows : List Row) (word : Text) → IsUtf8 word → r.ended ≡ false → Holds r.given rows → (m : Mark) → Looks m word
       → Comes (awaited k m word r) (turn_fault (leaf_shape name) [] (waiting_at k rows) word) (walked rules [] (waiting_at k rows) word)
@@ -489,7 +545,7 @@ module _ (name : Text) where
       inr (record { rows = rows; pending = Some (id_of k, []); waiting = waits_for (id_of k); ended = true; is = t.1; plain = λ x. absurd (true≢false x); faulty = missing k rows })
   waiting_mark r k rows word u e h (option n v) l =
       inl (subst IsFaulty (sym (option_turn name rows (Some (id_of k, [])) (waits_for (id_of k)) word n v l))
-      (option_faulty rows (Some (id_of k, [])) (waits_for (id_of k)) word v (missing k rows) (bytes_eq (codes "budget") n) (bytes_eq (codes "steps") n) (bytes_eq (codes "stats") n)))
+      (option_faulty rows (Some (id_of k, [])) (waits_for (id_of k)) word v (missing k rows) (bytes_eq (codes "budget") n) (bytes_eq (codes "steps") n) (bytes_eq (codes "workers") n) (bytes_eq (codes "stats") n)))
   waiting_mark r k rows word u e h stray l = inl (stray_turn name rows (Some (id_of k, [])) (waits_for (id_of k)) word u l)
   waiting_mark r k rows word u e h operand l = wait_comes k r rows word _ _ e h
       (operand_turn name rows (Some (id_of k, [])) (waits_for (id_of k)) word l ∙ value_fault k rows word)
@@ -511,7 +567,7 @@ module _ (name : Text) where
       let t = ends_turn name rows p q word l in
       inr (record { rows = rows; pending = p; waiting = q; ended = true; is = t.1; plain = λ x. absurd (true≢false x); faulty = f })
   doomed_mark rows p q word u plain f (option n v) l = inl (subst IsFaulty (sym (option_turn name rows p q word n v l))
-      (option_faulty rows p q word v f (bytes_eq (codes "budget") n) (bytes_eq (codes "steps") n) (bytes_eq (codes "stats") n)))
+      (option_faulty rows p q word v f (bytes_eq (codes "budget") n) (bytes_eq (codes "steps") n) (bytes_eq (codes "workers") n) (bytes_eq (codes "stats") n)))
   doomed_mark rows p q word u plain f stray l = inl (stray_turn name rows p q word u l)
   doomed_mark rows p q word u plain f operand l =
       inl (subst IsFaulty (sym (operand_turn name rows p q word l ∙ plain_fault name rows p q word plain ∙ fault_free rows p)) f)

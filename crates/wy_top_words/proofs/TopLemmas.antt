@@ -9,7 +9,7 @@ use Rattle.clap.specs.Simple.{App, entered, is_simple, names_of, subcommand_of}
 use Rattle.clap.specs.Kinds.{Kinds, or_else}
 use Rattle.clap.specs.Faults.{bundle_fault, bundle_step_fault, check_fault, defaults_fault, entered_fault, fault_of, flag_word_fault, flags_fault, is_simple_and_free, level_fault, other_fault, settle_fault, step_fault, turn_fault, walk_fault}
 use Rattle.clap.proofs.WalkLemmas.{walk_stopped}
-use Rattle.wy_top_words.specs.CommandLine.{Given, Mark, Text, asked, command_of, ends, given_by, kind_named, mark_of, operand, option, stray}
+use Rattle.wy_top_words.specs.CommandLine.{Given, Mark, Text, ordered, order_of, ends, given_by, kind_named, mark_of, operand, option, stray}
 use Rattle.wy_top_words.specs.Line.{app}
 use Rattle.wy_top_words.specs.Rows.{asked_by, asked_with}
 use Rattle.wy_top_words.specs.Rules.{leaf_shape, leaves, rules, top_shape}
@@ -215,17 +215,17 @@ no_command word rest u met free = go (first_word word u (mark_of word) (looks wo
 -- ---- the whole line
 
 -- where no fault comes, the matches ask for what the words do
-pub line_taken : (words : List Text) → AreTexts words → fault_of app words ≡ [] → asked_by (subcommand_of app words) ≡ command_of words
+pub line_taken : (words : List Text) → AreTexts words → fault_of app words ≡ [] → asked_by (subcommand_of app words) ≡ order_of words
 line_taken [] us free = refl
 line_taken (word ∷ rest) us free = go (kind_named word) (met_is word)
   where
     given : (k : Kind) (o : Option Given) → Meets (name_of k) o rest → level_fault (leaf_shape (name_of k)) [] nothing_held rest false [] ≡ []
-        → asked_with k (rows_after rules [] rest) ≡ option_and_then (asked k) o
+        → asked_with k (rows_after rules [] rest) ≡ option_and_then (ordered k) o
     given k None f none = absurd (no_fault _ f none)
     given k (Some g) e none = e.1 k
 
     go : (o : Option Kind) → subcommand_met names idle word ≡ option_map name_of o
-        → asked_by (subcommand_of app (word ∷ rest)) ≡ option_and_then (λ k. option_and_then (asked k) (given_by rest)) o
+        → asked_by (subcommand_of app (word ∷ rest)) ≡ option_and_then (λ k. option_and_then (ordered k) (given_by rest)) o
     go None met = no_command word rest us.0 met free
     go (Some k) met =
         let e = enters k word rest met in
@@ -233,16 +233,16 @@ line_taken (word ∷ rest) us free = go (kind_named word) (met_is word)
         ∙ given k (given_by rest) (meets (name_of k) rest us.1) (sym e.fault ∙ free)
 
 -- where a fault comes, the words ask for nothing
-pub line_refused : (words : List Text) → AreTexts words → IsFaulty (fault_of app words) → command_of words ≡ None
+pub line_refused : (words : List Text) → AreTexts words → IsFaulty (fault_of app words) → order_of words ≡ None
 unfolding defaults_fault walk_fault
 line_refused [] us f = absurd f
 line_refused (word ∷ rest) us f = go (kind_named word) (met_is word)
   where
     given : (k : Kind) (o : Option Given) → Meets (name_of k) o rest → IsFaulty (level_fault (leaf_shape (name_of k)) [] nothing_held rest false [])
-        → option_and_then (asked k) o ≡ None
+        → option_and_then (ordered k) o ≡ None
     given k None e faulty = refl
     given k (Some g) e faulty = absurd (no_fault _ faulty e.0)
 
-    go : (o : Option Kind) → subcommand_met names idle word ≡ option_map name_of o → option_and_then (λ k. option_and_then (asked k) (given_by rest)) o ≡ None
+    go : (o : Option Kind) → subcommand_met names idle word ≡ option_map name_of o → option_and_then (λ k. option_and_then (ordered k) (given_by rest)) o ≡ None
     go None met = refl
     go (Some k) met = given k (given_by rest) (meets (name_of k) rest us.1) (subst IsFaulty (enters k word rest met).fault f)

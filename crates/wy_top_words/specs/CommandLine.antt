@@ -1,5 +1,5 @@
 -- What do the words of a command line ask for? A word is its bytes; 45 is `-` and 61 is `=`.
-use Rattle.std.specs.Prelude.{◌==◌, ◌&&◌, ◌||◌, ℕ, Bool, true, false, List, [], ◌∷◌, ◌++◌, length, Option, Some, None, is_some, if◌then◌else◌}
+use Rattle.std.specs.Prelude.{◌≡◌, ◌==◌, ◌&&◌, ◌||◌, ℕ, Bool, true, false, List, [], ◌∷◌, ◌++◌, length, Option, Some, None, is_some, if◌then◌else◌}
 use Rattle.std.specs.Prelude.{bytes_eq, codes, nat_le, nat_lt, option_and_then, option_map}
 use Rattle.std.specs.List.{list_any, before_first, after_first}
 use Rattle.std.specs.Str.{all_ascii_digits}
@@ -44,12 +44,14 @@ mark_of (b ∷ bs) = if b == 45 then dash_mark bs else operand
 pub data Key : Type 0 where
   budget : Key
   steps : Key
+  workers : Key
 
 -- what the words give: the operands in order, the value of each option as it is written, and whether `--stats` is there
 pub record Given : Type 0 where
   pub operands : List Text
   pub budget : Option Text
   pub steps : Option Text
+  pub workers : Option Text
   pub stats : Bool
 
 -- where the reading stands between two words: what was given so far, the option whose value comes next, and whether
@@ -60,7 +62,7 @@ pub record Reading : Type 0 where
   pub ended : Bool
 
 abbrev pub nothing : Given
-nothing = record { operands = []; budget = None; steps = None; stats = false }
+nothing = record { operands = []; budget = None; steps = None; workers = None; stats = false }
 
 abbrev pub start : Reading
 start = record { given = nothing; awaits = None; ended = false }
@@ -74,6 +76,8 @@ with_value budget w r = if is_some r.given.budget then None
     else Some (record r { given = record r.given { budget = Some w }; awaits = None })
 with_value steps w r = if is_some r.given.steps then None
     else Some (record r { given = record r.given { steps = Some w }; awaits = None })
+with_value workers w r = if is_some r.given.workers then None
+    else Some (record r { given = record r.given { workers = Some w }; awaits = None })
 
 abbrev pub with_stats : Reading → Option Reading
 with_stats r = if r.given.stats then None else Some (record r { given = record r.given { stats = true } })
@@ -89,7 +93,8 @@ stats_met None r = with_stats r
 abbrev pub option_met : Text → Option Text → Reading → Option Reading
 option_met name value r = if bytes_eq (codes "budget") name then key_met budget value r
     else (if bytes_eq (codes "steps") name then key_met steps value r
-    else (if bytes_eq (codes "stats") name then stats_met value r else None))
+    else (if bytes_eq (codes "workers") name then key_met workers value r
+    else (if bytes_eq (codes "stats") name then stats_met value r else None)))
 
 abbrev pub marked : Mark → Text → Reading → Option Reading
 marked ends w r = Some (record r { ended = true })
@@ -138,6 +143,11 @@ budget_within (Some t) = bounded 0 1000000 t
 abbrev pub steps_within : Option Text → Option ℕ
 steps_within None = Some 10000000
 steps_within (Some t) = bounded 0 1000000000000 t
+
+-- the number of workers
+abbrev pub workers_within : Option Text → Option ℕ
+workers_within None = Some 1
+workers_within (Some t) = bounded 1 64 t
 
 -- ---- the commands
 
@@ -203,6 +213,33 @@ asked kind.Dis g = option_map (λ t. dis t) (source_of g)
 asked kind.Big g = big_asked g
 asked kind.Probe g = probe_asked g
 
+-- one worker, where no number is given
+abbrev pub alone : Option Text → Option ℕ
+alone None = Some 1
+alone (Some t) = None
+
+-- the number of workers of a command; some commands take none
+abbrev pub workers_for : Kind → Option Text → Option ℕ
+workers_for kind.Check t = workers_within t
+workers_for kind.Run t = workers_within t
+workers_for kind.Prove t = workers_within t
+workers_for kind.Conds t = alone t
+workers_for kind.Fmt t = alone t
+workers_for kind.Dis t = alone t
+workers_for kind.Big t = workers_within t
+workers_for kind.Probe t = alone t
+
+-- what is asked for, and how many workers are to judge conditions
+pub record Order : Type 0 where
+  pub asked : Asked
+  pub workers : ℕ
+
+abbrev pub with_workers : Asked → ℕ → Order
+with_workers a n = record { asked = a; workers = n }
+
+abbrev pub ordered : Kind → Given → Option Order
+ordered k g = option_and_then (λ a. option_map (with_workers a) (workers_for k g.workers)) (asked k g)
+
 abbrev pub other_kind_named : Text → Option Kind
 other_kind_named name = if bytes_eq (codes "conds") name then Some kind.Conds
     else (if bytes_eq (codes "fmt") name then Some kind.Fmt
@@ -215,7 +252,17 @@ kind_named name = if bytes_eq (codes "check") name then Some kind.Check
     else (if bytes_eq (codes "run") name then Some kind.Run
     else (if bytes_eq (codes "prove") name then Some kind.Prove else other_kind_named name))
 
--- what the words behind the program's name ask for
+-- what the words behind the program's name ask for, and by how many workers
+abbrev pub order_of : List Text → Option Order
+order_of [] = None
+order_of (name ∷ rest) = option_and_then (λ k. option_and_then (ordered k) (given_by rest)) (kind_named name)
+
+-- what they ask for
 abbrev pub command_of : List Text → Option Asked
-command_of [] = None
-command_of (name ∷ rest) = option_and_then (λ k. option_and_then (asked k) (given_by rest)) (kind_named name)
+command_of words = option_map (λ o. o.asked) (order_of words)
+
+-- However many workers are asked for, a command that takes their number asks for the same: where the words behind its name give some number of
+-- them, what they ask for is what they would with any other.
+abbrev pub NeverByWorkers : Type 0
+NeverByWorkers = (k : Kind) (g : Given) (t u : Text) (n m : ℕ) → bounded 1 64 t ≡ Some n → bounded 1 64 u ≡ Some m
+    → option_map (λ o. o.asked) (ordered k (record g { workers = Some t })) ≡ option_map (λ o. o.asked) (ordered k (record g { workers = Some u }))

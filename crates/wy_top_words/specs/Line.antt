@@ -14,8 +14,8 @@ abbrev pub operands_rule : Rule
 operands_rule = record (new_rule (codes "operands")) { action = Some Append }
 
 abbrev pub leaf_app : Text → App
-leaf_app name = with_rule (with_rule (with_rule (with_rule (new_app name) (valued_rule (codes "budget")))
-    (valued_rule (codes "steps"))) stats_rule) operands_rule
+leaf_app name = with_rule (with_rule (with_rule (with_rule (with_rule (new_app name) (valued_rule (codes "budget")))
+    (valued_rule (codes "steps"))) (valued_rule (codes "workers"))) stats_rule) operands_rule
 
 abbrev pub bare_app : App
 bare_app = on_top (λ s. record s { no_binary_name = true; disable_help_flag = true; disable_help_subcommand = true; disable_version_flag = true })

@@ -2,7 +2,8 @@
 use Rattle.std.specs.Prelude.{List, map, option_map, String, string_bytes}
 use Rattle.std.specs.Borrow.{Bor}
 use Rattle.std.specs.declared.alloc.Global.{Global}
-use Rattle.wy_top_words.specs.CommandLine.{Asked, Given, Text, check, run, prove, conds, fmt, dis, big, probe}
+use Rattle.wy_top_words.specs.CommandLine.{Asked, Given, Order, Text, with_workers, check, run, prove, conds, fmt, dis, big, probe}
+use Rattle.wy_top_words.specs.declared.command.Ordered.{Ordered}
 use Rattle.wy_top_words.specs.declared.command.Words.{Words}
 use Rattle.wy_top_words.specs.declared.command.Words.TheVariants as words
 use Rattle.wy_top_words.specs.declared.command.Given.{Given as Slices}
@@ -22,6 +23,7 @@ given_in g = record {
   operands = map (λ s. s.now) g.operands.now;
   budget = option_map (λ s. s.now) g.budget;
   steps = option_map (λ s. s.now) g.steps;
+  workers = option_map (λ s. s.now) g.workers;
   stats = g.stats;
 }
 
@@ -35,3 +37,7 @@ asked_in (words.Fmt source) = fmt source.now
 asked_in (words.Dis source) = dis source.now
 asked_in (words.Big functions seed budget steps) = big functions seed budget steps
 asked_in (words.Probe source name tuples ticks) = probe source.now name.now tuples ticks
+
+-- the command, with the number of its workers
+abbrev pub order_in : Ordered → Order
+order_in o = with_workers (asked_in o.words) o.workers

@@ -32,7 +32,7 @@ operands = record (new_rule (codes "operands")) {
 }
 
 abbrev pub rules : List Rule
-rules = valued (codes "budget") ∷ valued (codes "steps") ∷ stats ∷ operands ∷ []
+rules = valued (codes "budget") ∷ valued (codes "steps") ∷ valued (codes "workers") ∷ stats ∷ operands ∷ []
 
 abbrev pub leaf_shape : Text → Shape
 leaf_shape name = record (new_shape name) {

@@ -1,9 +1,9 @@
 //! What the words of a command line ask for.
-ghost use Rattle.std.specs.Prelude.{◌≡◌, option_map, map};
-ghost use Rattle.wy_top_words.specs.CommandLine.{asked, big_asked, check_asked, kind_named, one_of, other_kind_named, prove_asked, run_asked, source_of, two_of, four_of};
-ghost use Rattle.wy_top_words.specs.Plain.{asked_in, given_in, text_in, texts_in};
+ghost use Rattle.std.specs.Prelude.{◌≡◌, ◌≤◌, IfSome, option_map, map};
+ghost use Rattle.wy_top_words.specs.CommandLine.{asked, big_asked, check_asked, kind_named, one_of, other_kind_named, ordered, prove_asked, run_asked, source_of, two_of, four_of, workers_for};
+ghost use Rattle.wy_top_words.specs.Plain.{asked_in, given_in, order_in, text_in, texts_in};
 
-use crate::number::{budget_of, number_within, steps_of};
+use crate::number::{budget_of, number_within, steps_of, workers_of};
 use crate::probing::probe;
 
 /// A command, with the texts of its operands and the numbers of its options.
@@ -60,6 +60,14 @@ pub enum Words<'a> {
     },
 }
 
+/// A command, and how many workers judge the conditions of its program: from 1 to 64, which changes nothing of what it comes to. It is 1
+/// for a command that judges none.
+#[derive(Clone, Copy, Debug, PartialEq, Eq)]
+pub struct Ordered<'a> {
+    pub words: Words<'a>,
+    pub workers: u64,
+}
+
 /// Which command it is.
 #[derive(Clone, Copy, Debug)]
 pub enum Kind {
@@ -112,11 +120,36 @@ pub struct Given<'a, 'b> {
     pub operands: &'b [&'a str],
     pub budget: Option<&'a str>,
     pub steps: Option<&'a str>,
+    pub workers: Option<&'a str>,
     pub stats: bool,
 }
 
 /// What the command asks for with these operands and options, if it takes them.
-pub fn meaning<'a, 'b>(kind: Kind, given: Given<'a, 'b>) -> Option<Words<'a>>
+pub fn order<'a, 'b>(kind: Kind, given: Given<'a, 'b>) -> Option<Ordered<'a>>
+    ensures value { option_map order_in result ≡ ordered kind (given_in given.entry) }
+    ensures within { IfSome result (λ o. (1 ≤ o.workers) × (o.workers ≤ 64)) }
+{
+    let words = meaning(kind, given)?;
+    let workers = workers(kind, given.workers)?;
+    Some(Ordered { words, workers })
+}
+
+// The number of workers, for a command that takes it.
+fn workers(kind: Kind, text: Option<&str>) -> Option<u64>
+    ensures value { result ≡ workers_for kind (option_map text_in text.entry) }
+    ensures within { IfSome result (λ n. (1 ≤ n) × (n ≤ 64)) }
+{
+    match kind {
+        Kind::Check | Kind::Run | Kind::Prove | Kind::Big => workers_of(text),
+        Kind::Conds | Kind::Fmt | Kind::Dis | Kind::Probe => match text {
+            None => Some(1),
+            Some(_) => None,
+        },
+    }
+}
+
+// What it asks for, whatever number of workers is given.
+fn meaning<'a, 'b>(kind: Kind, given: Given<'a, 'b>) -> Option<Words<'a>>
     ensures value { option_map asked_in result ≡ asked kind (given_in given.entry) }
 {
     match kind {

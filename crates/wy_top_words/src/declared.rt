@@ -44,6 +44,7 @@ fn with_command<'a>(
     let command = Command::new(alloc, name)
         .arg(valued(alloc, "budget"))?
         .arg(valued(alloc, "steps"))?
+        .arg(valued(alloc, "workers"))?
         .arg(stats(alloc))?
         .arg(operands(alloc))?;
     line.subcommand(command)

@@ -11,6 +11,6 @@ mod number;
 mod probing;
 mod read;
 
-pub use command::Words;
-pub use law::lines_mean;
+pub use command::{Ordered, Words};
+pub use law::{lines_mean, workers_change_nothing};
 pub use read::{WordsFault, read_words};

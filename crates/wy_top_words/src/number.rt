@@ -1,6 +1,6 @@
 //! Numbers on the command line.
-ghost use Rattle.std.specs.Prelude.{◌≡◌, option_map};
-ghost use Rattle.wy_top_words.specs.CommandLine.{bounded, budget_within, number_of, steps_within};
+ghost use Rattle.std.specs.Prelude.{◌≡◌, ◌≤◌, IfSome, option_map};
+ghost use Rattle.wy_top_words.specs.CommandLine.{bounded, budget_within, number_of, steps_within, workers_within};
 ghost use Rattle.wy_top_words.specs.Plain.{text_in};
 
 /// The most digits that a number may have.
@@ -27,6 +27,7 @@ pub fn number(text: &str) -> Option<u64>
 /// The number that is written so, where it lies from `least` to `most`.
 pub fn number_within(text: &str, least: u64, most: u64) -> Option<u64>
     ensures value { result ≡ bounded least most text.now }
+    ensures within { IfSome result (λ n. (least ≤ n) × (n ≤ most)) }
 {
     let value = number(text)?;
     if least <= value && value <= most {
@@ -53,5 +54,16 @@ pub fn steps_of(text: Option<&str>) -> Option<u64>
     match text {
         None => Some(10_000_000),
         Some(text) => number_within(text, 0, 1_000_000_000_000),
+    }
+}
+
+/// How many workers judge the conditions of a program: from 1 to 64, and 1 where no number is given.
+pub fn workers_of(text: Option<&str>) -> Option<u64>
+    ensures value { result ≡ workers_within (option_map text_in text.entry) }
+    ensures within { IfSome result (λ n. (1 ≤ n) × (n ≤ 64)) }
+{
+    match text {
+        None => Some(1),
+        Some(text) => number_within(text, 1, 64),
     }
 }

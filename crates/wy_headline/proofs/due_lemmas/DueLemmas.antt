@@ -11,7 +11,7 @@ use Rattle.wy_sound.specs.wy_vc_laws.shown.Certified.{AreFormed, IsFormed}
 use Rattle.wy_sound.proofs.wy_vc_laws_proofs.shown_lemmas.TruthLemmas.{premises_met}
 use Rattle.wy_term.specs.Condition.{Condition}
 use Rattle.wy_top.specs.Acceptance.{Acceptance, accepts, are_closed, unproved_lines}
-use Rattle.wy_top.specs.Known.{AreKnown, End, EndsSo, IsSearched, Known, bad_step_of, end_of, supplied}
+use Rattle.wy_top.specs.wy_batch.Known.{AreKnown, End, EndsSo, IsSearched, Known, bad_step_of, end_of, supplied}
 use Rattle.wy_top.specs.Programs.{conditions_of}
 use Rattle.wy_top.specs.Refusals.{invalid_lines}
 use Rattle.wy_headline.specs.due.Due.{EachIsKnown, OneIsDue}

@@ -3,7 +3,7 @@ use Rattle.std.specs.Prelude.{ℕ, List}
 use Rattle.wy_top.specs.wy_top_answers.Steps.{Came, due}
 use Rattle.wy_top.specs.wy_cert.Steps.{Certificates}
 use Rattle.wy_top.specs.Acceptance.{Acceptance, AreVerdicts, accepts}
-use Rattle.wy_top.specs.Known.{Known}
+use Rattle.wy_top.specs.wy_batch.Known.{Known}
 use Rattle.wy_top.specs.Programs.{Program}
 
 -- whatever certificates are supplied and whatever the budget, something is known of each condition of the program: the search of each one ends

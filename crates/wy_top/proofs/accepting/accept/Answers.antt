@@ -3,7 +3,7 @@ use Rattle.wy_top_answers.specs.Answers.{IsRefusal}
 use Rattle.wy_top_answers.proofs.StepLemmas.{memory_gives}
 use Rattle.wy_top.specs.Owed.{told_by}
 use Rattle.wy_top.specs.Refusals.{invalid_lines, refusal_lines}
-use Rattle.wy_top.specs.Seen.{known}
+use Rattle.wy_batch.specs.Seen.{known}
 use Rattle.wy_top.specs.Acceptance.{accepts, are_closed}
 use Rattle.wy_top.specs.Kept.{judged_program}
 use Rattle.wy_top.specs.Programs.{conditions_of}

@@ -1,6 +1,6 @@
 use Rattle.std.proofs.Common.{◌≡◌, drop, map}
 use Rattle.wy_top.specs.Acceptance.{are_closed}
-use Rattle.wy_top.specs.Seen.{known}
+use Rattle.wy_batch.specs.Seen.{known}
 use Rattle.wy_top.proofs.counting.are_closed.Given as goal
 
 -- all are, if those that are left are

@@ -1,6 +1,6 @@
 use Rattle.std.proofs.Common.{◌≡◌, ◌+◌, ◌≤◌, drop, map}
-use Rattle.wy_top.specs.Known.{count, is_spent}
-use Rattle.wy_top.specs.Seen.{known}
+use Rattle.wy_batch.specs.Known.{count, is_spent}
+use Rattle.wy_batch.specs.Seen.{known}
 use Rattle.wy_top.proofs.counting.spent.Given as goal
 
 -- those so far, and those among what is left

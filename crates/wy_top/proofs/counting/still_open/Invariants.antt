@@ -1,6 +1,6 @@
 use Rattle.std.proofs.Common.{◌≡◌, ◌+◌, ◌≤◌, drop, map}
-use Rattle.wy_top.specs.Known.{count, is_open}
-use Rattle.wy_top.specs.Seen.{known}
+use Rattle.wy_batch.specs.Known.{count, is_open}
+use Rattle.wy_batch.specs.Seen.{known}
 use Rattle.wy_top.proofs.counting.still_open.Given as goal
 
 -- those so far, and those among what is left

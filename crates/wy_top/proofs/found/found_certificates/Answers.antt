@@ -3,11 +3,11 @@ use Rattle.wy_cert.specs.Steps.{certificates_of}
 use Rattle.wy_prove.specs.Answers.{IsFormedThroughout}
 use Rattle.wy_term.specs.Condition.{condition_of}
 use Rattle.wy_top.specs.Found.{IsMore}
-use Rattle.wy_top.specs.Known.{is_found}
-use Rattle.wy_top.specs.Seen.{seen_end}
-use Rattle.wy_top.specs.declared.verdict.Verdict.{Verdict}
+use Rattle.wy_batch.specs.Known.{is_found}
+use Rattle.wy_batch.specs.Seen.{seen_end}
+use Rattle.wy_batch.specs.declared.verdict.Verdict.{Verdict}
 use Rattle.wy_top.proofs.FoundLemmas.{are_named, formed_at, found_turn, is_more, lacks_at}
-use Rattle.wy_top.proofs.JudgedLemmas.{same_condition, within_at}
+use Rattle.wy_batch.proofs.JudgedLemmas.{same_condition, within_at}
 use Rattle.wy_top.proofs.found.found_certificates.Goals as goal
 
 pub with_found-requires-clause-formed : goal.with_found-requires-clause-formed

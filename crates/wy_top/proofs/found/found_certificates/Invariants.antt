@@ -3,7 +3,7 @@ use Rattle.wy_cert.specs.Steps.{NameTheirTerms, certificates_of}
 use Rattle.wy_term.specs.Condition.{condition_of}
 use Rattle.wy_term.specs.Nodes.{tree_at}
 use Rattle.wy_top.specs.Found.{AreFor}
-use Rattle.wy_top.specs.Seen.{known}
+use Rattle.wy_batch.specs.Seen.{known}
 use Rattle.wy_top.proofs.found.found_certificates.Given as goal
 
 -- those for the conditions so far; the terms are as before

@@ -1,9 +1,9 @@
 use Rattle.std.proofs.Common.{◌≡◌, None, true, refl, subst, sym}
 use Rattle.wy_prove.specs.Answers.{AnswersWhatIsFound}
 use Rattle.wy_term.specs.Condition.{condition_of}
-use Rattle.wy_top.specs.Known.{is_found}
-use Rattle.wy_top.specs.Seen.{seen_end}
-use Rattle.wy_top.specs.declared.verdict.End.{End}
+use Rattle.wy_batch.specs.Known.{is_found}
+use Rattle.wy_batch.specs.Seen.{seen_end}
+use Rattle.wy_batch.specs.declared.verdict.End.{End}
 use Rattle.wy_top.proofs.FoundLemmas.{found_lacks}
 use Rattle.wy_top.proofs.found.with_found.Goals as goal
 

@@ -1,6 +1,6 @@
 use Rattle.std.proofs.Common.{◌≡◌, ◌++◌, suc, drop, map}
 use Rattle.wy_top.specs.Refusals.{invalid_from, invalid_lines}
-use Rattle.wy_top.specs.Seen.{known}
+use Rattle.wy_batch.specs.Seen.{known}
 use Rattle.wy_top.proofs.invalid.invalid_lines.Given as goal
 
 -- the text so far, and that of what is left

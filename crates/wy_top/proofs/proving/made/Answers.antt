@@ -7,8 +7,8 @@ use Rattle.wy_term.specs.declared.cond.Cond.{Cond}
 use Rattle.wy_cert.specs.writing.Text.{file_text}
 use Rattle.wy_top.specs.Programs.{conditions_of}
 use Rattle.wy_top.specs.Proofs.{judges}
-use Rattle.wy_top.specs.Seen.{known}
-use Rattle.wy_top.specs.declared.verdict.Verdict.{Verdict}
+use Rattle.wy_batch.specs.Seen.{known}
+use Rattle.wy_batch.specs.declared.verdict.Verdict.{Verdict}
 use Rattle.wy_top.proofs.FoundLemmas.{left_out}
 use Rattle.wy_top.proofs.ProofLemmas.{found_for, lacks_for, saved_file, saved_gives, unmade_gives}
 use Rattle.wy_top.proofs.proving.made.Goals as goal

@@ -1,7 +1,7 @@
 use Rattle.std.proofs.Common.{◌≡◌, ◌++◌, [], suc, drop, map}
 use Rattle.wy_top.specs.Refusals.{lines_from}
 use Rattle.wy_vc.specs.Told.{seen_cond}
-use Rattle.wy_top.specs.Seen.{known}
+use Rattle.wy_batch.specs.Seen.{known}
 use Rattle.wy_top.proofs.refusing.all_lines.Given as goal
 
 -- the text so far, and that of what is left

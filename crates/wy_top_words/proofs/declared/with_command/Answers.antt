@@ -8,7 +8,8 @@ pub returns : goal.returns
 returns c =
     let command_is : app_of c.in_ok-command.command ≡ leaf_app c.args.name.now =
     c.in_ok-command.ensures.shape (search rules)
+    ∙ ap₂ with_rule (c.in_ok-arg-4.ensures.shape (search rules)
     ∙ ap₂ with_rule (c.in_ok-arg-3.ensures.shape (search rules)
     ∙ ap₂ with_rule (c.in_ok-arg-2.ensures.shape (search rules)
-    ∙ ap₂ with_rule (c.in_ok-arg.ensures.shape (search rules) ∙ ap₂ with_rule c.new.ensures.app c.valued.ensures.rule) c.valued-2.ensures.rule) c.stats.ensures.rule) c.operands.ensures.rule in
+    ∙ ap₂ with_rule (c.in_ok-arg.ensures.shape (search rules) ∙ ap₂ with_rule c.new.ensures.app c.valued.ensures.rule) c.valued-2.ensures.rule) c.valued-3.ensures.rule) c.stats.ensures.rule) c.operands.ensures.rule in
     record { app = IfOk-weaker c.subcommand.result _ _ (λ m h. h.shape (search rules) ∙ ap (with_subcommand (app_of c.args.line)) (ap (λ (a : App). a.top) command_is)) c.subcommand.ensures }

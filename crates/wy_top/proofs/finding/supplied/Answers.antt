@@ -1,7 +1,0 @@
-use Rattle.wy_cert.specs.Steps.{certificates_of}
-use Rattle.wy_term.specs.Condition.{condition_of}
-use Rattle.wy_top.proofs.JudgedLemmas.{given_count}
-use Rattle.wy_top.proofs.finding.supplied.Goals as goal
-
-pub returns-clause-count : goal.returns-clause-count
-returns-clause-count c = given_count (condition_of c.args.terms.now) (certificates_of c.args.certs.now) c.args.conds.now c.in_ok-given.given.items c.in_ok-given.ensures.value
