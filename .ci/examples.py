@@ -1,7 +1,8 @@
 """Runs the tables of examples/accepted, examples/refused and examples/runs against a built program: `examples.py PROGRAM`.
 
 A row of `accepted` names a file and its number of conditions, one of `refused` a file with the first line and, where it has one, the
-last line on standard error, one of `runs` words with both outputs and the status. The last line tells how many agreed.
+last line on standard error, and behind them what a probe of a function writes, one of `runs` words with both outputs and the status.
+The last line tells how many agreed.
 """
 import os
 import re
@@ -32,7 +33,13 @@ def refused(program, cells):
     status, out, err = called(program, "refused", ["check", cells[0], "none"])
     lines = err.splitlines() or [""]
     last = cells[2] if len(cells) > 2 else ""
-    return status == 1 and out == "" and lines[0] == cells[1] and last in ("", lines[-1])
+    refuses = status == 1 and out == "" and lines[0] == cells[1] and last in ("", lines[-1])
+    return refuses and (len(cells) < 4 or probed(program, cells[0], *cells[3].split(": ", 1)))
+
+
+def probed(program, file, name, line):
+    wanted = (12 if line.startswith("fault") else 0, line + "\n", "")
+    return called(program, "refused", ["probe", file, name, "1000", "2000"]) == wanted
 
 
 def run(program, cells):
