@@ -36,6 +36,13 @@ CALLS = [
     ["big", "1", "7"],
 ]
 
+# Calls whose requests are refused each in a call of its own: a copy of a process has one thread.
+BY_WORKERS = [
+    ["check", "inc.wy", "none", "--workers", "2"],
+    ["check", "inc.wy", "none", "--budget", "0", "--workers", "2"],
+    ["run", "inc.wy", "inc.cert", "inc", "(5)", "--workers", "3"],
+]
+
 
 def compiled(room):
     """The library that refuses, or nothing where it can't be made."""
@@ -80,28 +87,48 @@ def tried(words, library, room):
         return differing(due, log.read())
 
 
+def refused_at(words, number, library, room):
+    """The answer of a call whose request of this number is refused, or nothing where it makes fewer."""
+    log = f"{room}/{number}.log"
+    got = ran(words, room, LD_PRELOAD=library, WY_REFUSE=str(number), WY_LOG=log)
+    return got if os.path.exists(log) else None
+
+
+def by_workers(words, library, room):
+    """Has each request of a call refused, in a call of its own."""
+    room = tempfile.mkdtemp(dir=room)
+    filled(room)
+    due, wrong, number = ran(words, room), set(), 0
+    while (got := refused_at(words, number + 1, library, room)) is not None:
+        number += 1
+        if got not in (due, (9, b"", b"")):
+            wrong.add((number, got))
+    return number, wrong
+
+
 def saved(library, room):
     """Has each request of a save refused, in a call of its own."""
     room = tempfile.mkdtemp(dir=room)
     filled(room)
-    words, wrong, number, log = ["prove", "inc.wy", "o"], set(), 0, f"{room}.log"
+    words, wrong, number = ["prove", "inc.wy", "o"], set(), 0
     due = ran(words, room)
     with open(f"{room}/o", "rb") as file:
         new = file.read()
+    logs = tempfile.mkdtemp(dir=room)
     names = sorted(os.listdir(room))
-    while number == 0 or os.path.exists(log):
-        number += 1
-        if os.path.exists(log):
-            os.remove(log)
+    while True:
         with open(f"{room}/o", "wb") as file:
             file.write(OLD)
-        got = ran(words, room, LD_PRELOAD=library, WY_REFUSE=str(number), WY_LOG=log)
+        log = f"{logs}/{number + 1}"
+        got = ran(words, room, LD_PRELOAD=library, WY_REFUSE=str(number + 1), WY_LOG=log)
+        if not os.path.exists(log):
+            return number, wrong
+        number += 1
         with open(f"{room}/o", "rb") as file:
             kept = file.read()
         is_right = got == due and kept == new or got == (9, b"", b"") and kept in (OLD, new)
         if not is_right or sorted(os.listdir(room)) != names:
             wrong.add((number, got, kept))
-    return number - 1, wrong
 
 
 def main():
@@ -113,6 +140,7 @@ def main():
             return 0
         with concurrent.futures.ThreadPoolExecutor(os.cpu_count()) as pool:
             trials = [(words, pool.submit(tried, words, library, room)) for words in CALLS]
+            trials += [(words, pool.submit(by_workers, words, library, room)) for words in BY_WORKERS]
             trials.append((["prove", "inc.wy", "o"], pool.submit(saved, library, room)))
             for words, trial in trials:
                 count, wrong = trial.result()
