@@ -1,3 +1,4 @@
+pub mod LineLemmas
 pub mod PlaceLemmas
 pub mod ProbeLemmas
 -- passed on to the crates above
