@@ -2,6 +2,7 @@ use Rattle.std.proofs.Common.{◌≡◌, ℕ, List, Option, inl, inr, sym, subst
 use Rattle.wy_top_answers.specs.Showing.{Sinks}
 use Rattle.wy_top_answers.specs.Steps.{Setting}
 use Rattle.wy_top_words.specs.CommandLine.{Asked, command_of}
+use Rattle.wy_top_words.specs.Plain.{words_in}
 use Rattle.wy_top.specs.Saves.{Saving}
 use Rattle.wy_top.specs.Statement.{Comes, DoesIf}
 use Rattle.wy_top.proofs.commands.run_words.Goals as goal
@@ -12,4 +13,4 @@ same_asked words others s v status k same (inl h) = inl (subst (λ (o : Option A
 same_asked words others s v status k same (inr h) = inr h
 
 pub returns-clause-workers : goal.returns-clause-workers
-returns-clause-workers g c = λ others same. same_asked _ others _ _ _ _ same c.called.ensures.comes
+returns-clause-workers g c = λ others same. same_asked (words_in c.args.words.now) others _ _ _ _ same c.called.ensures.comes

@@ -18,7 +18,7 @@ use Rattle.wy_vc.specs.wy_vc_spec.Limits.{most_conditions}
 use Rattle.wy_top.proofs.judging.judge_all.Goals as goal
 
 pub judge-requires : goal.judge-requires
-judge-requires g c = record { conds = c.requires.kept.numbers; certs = c.requires.names; few = omega (arith, c.requires.kept.few); workers = c.requires.workers }
+judge-requires g c = (c.type_bounds.sync-R, (c.requires.kept.numbers, (c.requires.names, (omega (arith, c.requires.kept.few), c.requires.workers))))
 
 pub returns-in-Ok-clause-verdicts : goal.returns-in-Ok-clause-verdicts
 returns-in-Ok-clause-verdicts g c =
