@@ -24,7 +24,7 @@ use Rattle.wy_top.specs.Acceptance.{Acceptance, accepts, accepts_file, accepts_s
 use Rattle.wy_top.specs.wy_batch.Known.{Known}
 use Rattle.wy_top.specs.Large.{large_name, makes_one}
 use Rattle.wy_top.specs.Launching.{fault_status, run_steps, starts}
-use Rattle.wy_top.specs.Probing.{IsProbed, enters, found_answer, probe_steps, reads}
+use Rattle.wy_top.specs.wy_top_probe.Probing.{IsProbed, enters, found_answer, probe_steps, reads}
 use Rattle.wy_top.specs.Programs.{Program, owes}
 use Rattle.wy_top.specs.Proofs.{IsJudged, proof_answer, proves_file}
 use Rattle.wy_top.specs.Saves.{Saves, Saving}
@@ -276,8 +276,8 @@ found_apart : (bytes : List ℕ) (f : Finding) (a : Answer) → a ≡ found_answ
 found_apart bytes (Faulted number vs kind at) a is = other 12 a _ is refl no_12
 found_apart bytes (Faultless tried met undecided) a is = other 0 a _ is refl no_0
 
-probed_apart : (bytes : List ℕ) (core : Core ℕ) (tuples ticks entry : ℕ) (a : Answer) → IsProbed bytes core tuples ticks entry (Ok a) → Apart a
-probed_apart bytes core tuples ticks entry a h = found_apart bytes h.finding a (answer_is a _ h.answer)
+probed_apart : (bytes : List ℕ) (core : Core ℕ) (tuples ticks number : ℕ) (a : Answer) → IsProbed bytes core tuples ticks number (Ok a) → Apart a
+probed_apart bytes core tuples ticks number a h = found_apart bytes h.finding a (answer_is a _ h.answer)
 
 enters_apart : (core : Core ℕ) (name : List ℕ) (a : Answer) → enters core name stated (Err a) → Apart a
 enters_apart core name a h = faulted_apart _ _ (λ f. no_7) a h
