@@ -18,7 +18,7 @@ use Rattle.wy_headline.specs.Commands.{AnswersLarge, ComesToLarge, ComesToRun, I
 use Rattle.wy_headline.specs.Started.{AcceptsBytes}
 use Rattle.wy_headline.specs.Runs.{Entry}
 use Rattle.wy_headline.proofs.RunLemmas.{IsOf, shows_run}
-use Rattle.wy_headline.proofs.StartedLemmas.{accepts_bytes, both_came, right_run, run_of_steps}
+use Rattle.wy_headline.proofs.StartedLemmas.{accepts_bytes, both_came, faultless_run, right_run, run_of_steps}
 
 -- ---- free answers
 
@@ -53,7 +53,8 @@ module _ (s : Setting) (source cert name arguments : List ℕ) (budget steps : �
       let of = run_of_steps s source cert name arguments budget l came in
       let e = entry_of of.acceptance.program.core name arguments l.start of.launched.starts in
       let run = right_run s cert budget of.file.bytes of.acceptance of.file.accepts name arguments l.start of.launched.starts in
-      record { of = of; shows = shows_run e l.lines l.start.has_result stats steps (state_of l.start steps) status k (run.right steps) shown }
+      let sound = faultless_run s cert budget of.file.bytes of.acceptance of.file.accepts name arguments l.start of.launched.starts in
+      record { of = of; never_faults = sound.no_fault; shows = shows_run e l.lines l.start.has_result stats steps (state_of l.start steps) status k (run.right steps) shown }
 
   by_launch : (r : Came Launch) → run_steps s source cert name arguments budget stated r ⊎ EndsOutside s r → statement.ShowsRun steps stats status k r → ComesToRun s source cert name arguments budget steps stats status k
   by_launch (Ok l) (inl came) shown = ran l (launched l came shown)
@@ -108,7 +109,8 @@ module _ (s : Setting) (functions seed budget steps : ℕ) where
       let of : IsLargeRun s functions seed budget l = record { bytes = f.value; made = f.came.0; within = f.came.1; acceptance = g.value; accepts = accepts; launched = h.came } in
       let e = entry_of g.value.program.core entry (argument_text seed) l.start h.came.starts in
       let run = right_run s no_file budget f.value g.value accepts entry (argument_text seed) l.start h.came.starts in
-      ran_large l of (large_answer e functions (count_of g.value.program) steps l (state_of l.start steps) a (run.right steps) h.then)
+      let sound = faultless_run s no_file budget f.value g.value accepts entry (argument_text seed) l.start h.came.starts in
+      ran_large l (record { of = of; never_faults = sound.no_fault; answers = large_answer e functions (count_of g.value.program) steps l (state_of l.start steps) a (run.right steps) h.then })
 
   -- where there is no run, it is one of the steps before it that comes to the answer
   not_started : (bytes : List ℕ) (x : Acceptance) → AcceptsBytes s no_file budget bytes x → (a : Answer) → Follows (starts entry (argument_text seed) x stated) (λ l. finishes functions (count_of x.program) steps l stated) (Err a)

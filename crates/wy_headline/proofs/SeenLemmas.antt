@@ -266,7 +266,7 @@ large_apart s functions seed budget a h =
     of_steps Apart _ _ (λ b g. made_apart functions seed b g) (λ bytes b g. of_steps Apart _ _ (λ c f. source_apart s large_name no_file budget bytes c f) (λ x c f. starts_apart entry (argument_text seed) x c f) b g) a h
 
 large_comes : (s : Setting) (functions seed budget steps : ℕ) (a : Answer) → ComesToLarge s functions seed budget steps a → Apart a
-large_comes s functions seed budget steps a (ran_large l of h) = line_apart _ _ _ _ _ a h
+large_comes s functions seed budget steps a (ran_large l h) = line_apart _ _ _ _ _ a h.answers
 large_comes s functions seed budget steps a (refused_large (inl h)) = large_apart s functions seed budget a h
 large_comes s functions seed budget steps a (refused_large (inr h)) = outside_apart s a h
 

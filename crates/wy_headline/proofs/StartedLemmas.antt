@@ -14,9 +14,12 @@ use Rattle.wy_top.specs.wy_mach_run.declared.parts.Start.{Start}
 use Rattle.wy_sound.specs.wy_sem.Evaluation.{Declared, callee}
 use Rattle.wy_sound.specs.wy_vc_laws.shown.Certified.{AllHold}
 use Rattle.wy_top.specs.wy_gen_laws.programs.Programs.{IsStuck}
+use Rattle.wy_top.specs.wy_mach_run.sound.Results.{IsFaultless}
 use Rattle.wy_top.specs.wy_mach_run.sound.Runs.{RunsRightly}
 use Rattle.wy_top.specs.wy_code_spec.step.Step.{State, Runs, Ended, Stuck}
 use Rattle.wy_headline.proofs.AcceptedLemmas.{sources_rightly}
+use Rattle.wy_headline.proofs.FaultLemmas.{faultless, values_bounded}
+use Rattle.wy_headline.proofs.SourceLemmas.{source_shown}
 use Rattle.wy_top.proofs.wy_link_load_proofs.AloneLemmas.{takes_nothing}
 use Rattle.wy_top.specs.wy_top_answers.supplied.Certificates.{certificates}
 use Rattle.wy_top.specs.Acceptance.{Acceptance, IsAccepted, accepts_file, accepts_source}
@@ -84,6 +87,15 @@ pub right_run : (s : Setting) (cert : List ℕ) (budget : ℕ) (bytes : List ℕ
 right_run s cert budget bytes a h name arguments start st =
     sources_rightly here bytes a.program.core a.program.flow h.owes.program h.holds start.code st.code start.entry st.routine start.args
     (callee_at (routines_of a.program.core) start.entry st.routine st.entry.there) st.values st.met.met
+
+-- from there the program is no fault, and what it gives is as its contract says
+pub faultless_run : (s : Setting) (cert : List ℕ) (budget : ℕ) (bytes : List ℕ) (a : Acceptance) → AcceptsBytes s cert budget bytes a → (name arguments : List ℕ) (start : Start) (st : Starts a.program.core name arguments start)
+    → IsFaultless here a.program.core start.entry st.routine (map seen start.args)
+faultless_run s cert budget bytes a h name arguments start st =
+    let core = a.program.core in
+    let is_shown = source_shown bytes core a.program.flow h.owes.program h.holds in
+    faultless here core a.program.flow is_shown.shown start.entry st.routine (map seen start.args)
+    (callee_at (routines_of core) start.entry st.routine st.entry.there) (values_bounded start.args st.values) st.met.met
 
 -- ---- no step is lacking
 

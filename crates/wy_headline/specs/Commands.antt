@@ -23,7 +23,7 @@ use Rattle.wy_top.specs.Statement.{IsAnswered, IsRun}
 use Rattle.wy_top.specs.declared.launching.Launch.{Launch}
 use Rattle.wy_value.specs.Datum.{Datum}
 use Rattle.wy_value.specs.Seen.{seen}
-use Rattle.wy_headline.specs.Runs.{Entry, IsDone, ShowsRun}
+use Rattle.wy_headline.specs.Runs.{Entry, IsDone, NeverFaults, ShowsRun}
 use Rattle.wy_headline.specs.Started.{AcceptsBytes, IsRunOf}
 
 -- the entry of a start of the program, and the values
@@ -32,9 +32,10 @@ entry_of core name arguments s h = record { core = core; number = s.entry; routi
 
 -- ---- the command `run`
 
--- the accepted program ran from this start, and what it shows is what it does
+-- the accepted program ran from this start, it never faults there, and what it shows is what it does
 pub record Ran (s : Setting) (source cert name arguments : List ℕ) (budget steps : ℕ) (stats : Bool) (status : ℕ) (k : Sinks) (l : Launch) : Type 0 where
   pub of : IsRunOf s source cert name arguments budget l
+  pub never_faults : NeverFaults (entry_of of.acceptance.program.core name arguments l.start of.launched.starts)
   pub shows : ShowsRun (entry_of of.acceptance.program.core name arguments l.start of.launched.starts) l.lines l.start.has_result stats steps status k
 
 -- there is no run: these steps came to the answer, or it came from outside
@@ -76,10 +77,14 @@ pub data AnswersLarge (e : Entry) (functions conditions : ℕ) (wanted : Bool) (
 abbrev pub large_start : Setting → ℕ → ℕ → ℕ → Sense → Came Launch → Type 0
 large_start s functions seed budget = and_then (makes functions seed) (λ bytes. and_then (accepts_source s large_name no_file budget bytes) (starts entry (argument_text seed)))
 
+-- it ran from this start, it never faults there, and the answer tells what it does
+pub record RanLarge (s : Setting) (functions seed budget steps : ℕ) (a : Answer) (l : Launch) : Type 0 where
+  pub of : IsLargeRun s functions seed budget l
+  pub never_faults : NeverFaults (entry_of of.acceptance.program.core entry (argument_text seed) l.start of.launched.starts)
+  pub answers : AnswersLarge (entry_of of.acceptance.program.core entry (argument_text seed) l.start of.launched.starts) functions (count_of of.acceptance.program) l.start.has_result steps a
+
 pub data ComesToLarge (s : Setting) (functions seed budget steps : ℕ) (a : Answer) : Type 0 where
-  ran_large : (l : Launch) (of : IsLargeRun s functions seed budget l)
-      → AnswersLarge (entry_of of.acceptance.program.core entry (argument_text seed) l.start of.launched.starts) functions (count_of of.acceptance.program) l.start.has_result steps a
-      → ComesToLarge s functions seed budget steps a
+  ran_large : (l : Launch) → RanLarge s functions seed budget steps a l → ComesToLarge s functions seed budget steps a
   -- a step before the run came to the answer, or it came from outside
   refused_large : large_start s functions seed budget stated (Err a) ⊎ IsOutside s a → ComesToLarge s functions seed budget steps a
 

@@ -10,7 +10,7 @@ use Rattle.wy_top.specs.wy_mach_run.Running.{Leaves, written}
 use Rattle.wy_sound.specs.wy_sem.Evaluation.{evaluate}
 use Rattle.wy_sound.specs.wy_sem.Meter.{Meter, Done}
 use Rattle.wy_sound.specs.wy_sem.Operations.{or_null}
-use Rattle.wy_top.specs.wy_gen_laws.programs.Programs.{PrintsThat}
+use Rattle.wy_top.specs.wy_gen_laws.programs.Programs.{NoFault, PrintsThat}
 use Rattle.wy_top.specs.wy_mach_run.sound.Runs.{Gives, GoesOn}
 use Rattle.wy_top.specs.Runs.{TookOf, done_text}
 use Rattle.wy_value.specs.Datum.{Datum}
@@ -21,6 +21,10 @@ pub record Entry : Type 0 where
   pub number : ℕ
   pub routine : Routine ℕ
   pub values : List Datum
+
+-- the value semantics is a fault at no number of ticks
+abbrev pub NeverFaults : Entry → Type 0
+NeverFaults e = (ticks : ℕ) → NoFault (evaluate here e.core e.number e.values ticks)
 
 -- the program is done with this value and output, and its contract holds of them
 abbrev pub IsDone : Entry → Datum → List ℕ → Type 0

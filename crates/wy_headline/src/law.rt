@@ -7,7 +7,8 @@ ghost use Rattle.wy_headline.specs.Seen.{NeverSticks};
 
 /// The command `run`. Either there is no run, and the answer of why is shown; or the source is a typed and assigned program, of
 /// each of its conditions a valid certificate was supplied, or the search closes it within the budget, and it is true, and the
-/// words name an entry and spell arguments that meet it. Then the status is 0 where the program is done on them, with its output and the text of its value on out, and its
+/// words name an entry and spell arguments that meet it. On these the value semantics is a fault at no number of ticks, whatever the
+/// status. The status is 0 where the program is done on them, with its output and the text of its value on out, and its
 /// contract holds of these; 8 where the steps are spent, and the program isn't done at any number of ticks for which they were
 /// enough; 5 where a sink counted a fault, and 9 for want of memory, with fronts of what the program prints. There is no other.
 /// Where files are told, a run that is due is one that comes, but for failed loads (4), failed sinks (5), want of memory (9) and
