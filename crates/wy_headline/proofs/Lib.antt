@@ -1,10 +1,11 @@
 pub mod SourceLemmas
 pub mod FaultLemmas
 pub mod AcceptedLemmas
+pub mod StepLemmas
 pub mod StartedLemmas
 pub mod RunLemmas
-pub mod EnoughLemmas
-pub mod CommandLemmas
+pub mod HeadlineLemmas
+pub mod LargeLemmas
 pub mod SeenLemmas
 pub mod CandidateLemmas
 pub mod ProbeLemmas

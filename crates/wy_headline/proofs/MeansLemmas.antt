@@ -7,7 +7,8 @@ use Rattle.wy_top.specs.Saves.{Saving}
 use Rattle.wy_top.specs.Statement.{Comes, Does, DoesIf}
 use Rattle.wy_top_words.specs.CommandLine.{Asked, check, run, prove, conds, fmt, dis, big, probe, command_of}
 use Rattle.wy_headline.specs.Means.{CallsMean, MeansAsked, MeansIf}
-use Rattle.wy_headline.proofs.CommandLemmas.{large_right, runs_right}
+use Rattle.wy_headline.proofs.HeadlineLemmas.{runs_right}
+use Rattle.wy_headline.proofs.LargeLemmas.{large_right}
 use Rattle.wy_headline.proofs.ProbeLemmas.{probes_right}
 use Rattle.wy_headline.proofs.SeenLemmas.{never_sticks}
 

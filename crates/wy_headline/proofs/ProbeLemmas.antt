@@ -13,7 +13,7 @@ use Rattle.wy_top.specs.wy_probe.Comes.{probe_of}
 use Rattle.wy_top.specs.wy_top_answers.Answers.{refused}
 use Rattle.wy_top.specs.wy_top_answers.Calls.{Faults as OfFaults, IsFaulted}
 use Rattle.wy_top.specs.wy_top_answers.Showing.{Shown, ShowsWhole, Sinks}
-use Rattle.wy_top.specs.wy_top_answers.Steps.{Came, EndsOutside, Follows, IsOutside, IsTold, Setting, answer_in, due, ends, failed, goes_on, memory, stated}
+use Rattle.wy_top.specs.wy_top_answers.Steps.{Came, EndsOutside, IsOutside, IsTold, Setting, answer_in, due, failed, goes_on, memory, stated}
 use Rattle.wy_top.specs.wy_top_answers.Texts.{load_status, load_text}
 use Rattle.wy_top.specs.wy_top_answers.declared.answer.Answer.{Answer}
 use Rattle.wy_top.specs.Exact.{IsElse}
@@ -21,7 +21,6 @@ use Rattle.wy_top.specs.Probing.{Checked, checked, enters, found_answer, probe_s
 use Rattle.wy_top.specs.Statement.{IsAnswered}
 use Rattle.wy_top.proofs.ExactLemmas.{answered}
 use Rattle.wy_top.proofs.wy_link_load_proofs.AloneLemmas.{takes_nothing}
-use Rattle.wy_top.proofs.wy_link_load_proofs.AnswerLemmas.{alone_covered}
 use Rattle.wy_top.proofs.wy_probe_proofs.RoutineLemmas.{callee_at}
 use Rattle.wy_top.proofs.wy_top_source_proofs.OneLemmas.{one_core}
 use Rattle.wy_headline.specs.Probes.{Faults, FaultsIn, IsNeverAccepted, MeansProbe, ProbesAreRight, answer_of}
@@ -29,7 +28,8 @@ use Rattle.wy_headline.specs.Sources.{IsShown}
 use Rattle.wy_headline.proofs.CandidateLemmas.{tuple_bounded}
 use Rattle.wy_headline.proofs.FaultLemmas.{faultless}
 use Rattle.wy_headline.proofs.SourceLemmas.{source_shown}
-use Rattle.wy_headline.proofs.StartedLemmas.{both_came}
+use Rattle.wy_headline.proofs.StartedLemmas.{accepted_hold}
+use Rattle.wy_headline.proofs.StepLemmas.{Refuses, alone_refused, both_came, no_value, of_steps, value_is}
 
 -- ---- what faults is never accepted
 
@@ -44,7 +44,7 @@ module _ (bytes name : List ℕ) (tuples ticks : ℕ) (f : Faults bytes name tup
   pub never_accepted : IsNeverAccepted bytes
   never_accepted s cert budget a h =
       let same = one_core bytes a.program.core f.core a.program.flow f.flow h.owes.program f.program in
-      never_shown a.program.flow (subst (λ (c : Core ℕ). IsShown c a.program.flow) same (source_shown bytes a.program.core a.program.flow h.owes.program h.holds))
+      never_shown a.program.flow (subst (λ (c : Core ℕ). IsShown c a.program.flow) same (source_shown bytes a.program.core a.program.flow h.owes.program (accepted_hold s cert budget bytes a h)))
 
 -- ---- which answers have another status
 
@@ -62,6 +62,9 @@ no_3 e = omega (arith, e)
 
 no_4 : ◌≢◌ {A = ℕ} 4 12
 no_4 e = omega (arith, e)
+
+no_6 : ◌≢◌ {A = ℕ} 6 12
+no_6 e = omega (arith, e)
 
 no_7 : ◌≢◌ {A = ℕ} 7 12
 no_7 e = omega (arith, e)
@@ -86,8 +89,8 @@ outside_other s a (failed file is rose) = other_as 4 a _ is refl no_4
 faulted_other : {F : Type 0} (faults : OfFaults F) (there : F → Type 0) → ((f : F) → faults.status f ≢ 12) → (a : Answer) → IsFaulted faults there a → Other a
 faulted_other faults there apart a h = other_as (faults.status h.fault) a _ h.answer refl (apart h.fault)
 
-alone_other : (s : Setting) (name : List ℕ) (a : Answer) → loads_alone s name stated (Err a) → Other a
-alone_other s name a h = alone_covered Other (record { not_loaded = by; refuses = λ lines. no_1 }) s name a h
+loading_other : Refuses Other
+loading_other = record { not_loaded = by; refuses = λ lines. no_1; no_certificates = λ lines. no_6 }
   where
     by : (f : LoadFault) (file : List ℕ) → Other (refused (load_status f) (load_text file f))
     by load.Absent file = no_3
@@ -95,27 +98,13 @@ alone_other s name a h = alone_covered Other (record { not_loaded = by; refuses 
     by load.Failed file = no_4
     by load.NoMemory file = no_9
 
-one_answer : {Y : Type 0} (a b : Answer) → (let r : Came Y = Err a in r ≡ Err b) → a ≡ b
-one_answer a b e = cc
-
-no_answer : (a b : Answer) → (let r : Came Answer = Err a in r ≡ Ok b) → ⊥
-no_answer a b e = absurd cc
-
-of_steps : {X Y : Type 0} (first : Came X → Type 0) (next : X → Came Y → Type 0) → ((a : Answer) → first (Err a) → Other a) → ((x : X) (a : Answer) → next x (Err a) → Other a)
-    → (a : Answer) → Follows first next (Err a) → Other a
-of_steps first next one two a (goes_on x h g) = two x a g
-of_steps first next one two a (ends b h e) = subst Other (sym (one_answer a b e)) (one b h)
-
 -- ---- the answer
-
-answer_is : (a b : Answer) → (let r : Came Answer = Ok a in r ≡ Ok b) → a ≡ b
-answer_is a b e = cc
 
 module _ (s : Setting) (source name : List ℕ) (tuples ticks : ℕ) where
   refused_other : (a : Answer) → probe_steps s source name tuples ticks stated (Err a) → Other a
   refused_other a h =
-      of_steps _ _ (λ b g. alone_other s source b g) (λ bytes b g. of_steps _ _ (λ c i. faulted_other _ _ (λ f. no_1) c i)
-      (λ p c i. of_steps _ _ (λ d j. faulted_other _ _ (λ f. no_7) d j) (λ entry d j. absurd (no_answer d _ j.answer)) c i) b g) a h
+      of_steps Other _ _ (λ b g. alone_refused Other loading_other s source b g) (λ bytes b g. of_steps Other _ _ (λ c i. faulted_other _ _ (λ f. no_1) c i)
+      (λ p c i. of_steps Other _ _ (λ d j. faulted_other _ _ (λ f. no_7) d j) (λ entry d j. absurd (no_value _ d j.answer)) c i) b g) a h
 
   -- the source faults so, and this is the answer
   record Came12 (a : Answer) : Type 0 where
@@ -151,7 +140,7 @@ module _ (s : Setting) (source name : List ℕ) (tuples ticks : ℕ) where
       let f = both_came _ _ a h in
       let g = both_came _ _ a f.then in
       let i = both_came _ _ a g.then in
-      by_finding f.value a f.came g.value g.came i.value i.came i.then.finding i.then.finds (answer_is a _ i.then.answer) twelve
+      by_finding f.value a f.came g.value g.came i.value i.came i.then.finding i.then.finds (value_is a _ i.then.answer) twelve
 
   of_last : (last : Came Answer) → probe_steps s source name tuples ticks stated last ⊎ EndsOutside s last → (answer_in last).status ≡ 12 → Came12 (answer_in last)
   of_last (Ok a) (inl h) twelve = answered_12 a h twelve

@@ -1,9 +1,10 @@
 -- what public contracts cite
-pub mod Sources
-pub mod Started
+pub mod Headline
 pub mod Runs
-pub mod Commands
+pub mod Started
+pub mod Large
 pub mod Probes
 pub mod Seen
 pub mod Means
+pub mod Sources
 pub mod due

@@ -6,14 +6,15 @@ use Rattle.wy_top.specs.wy_top_answers.Steps.{Setting}
 use Rattle.wy_top.specs.Saves.{Saving}
 use Rattle.wy_top.specs.Statement.{Comes}
 use Rattle.wy_top_words.specs.CommandLine.{Asked, check, run, prove, conds, fmt, dis, big, probe, command_of}
-use Rattle.wy_headline.specs.Commands.{MeansRun, ShowsLarge}
+use Rattle.wy_headline.specs.Headline.{Headline}
+use Rattle.wy_headline.specs.Large.{ShowsLarge}
 use Rattle.wy_headline.specs.Probes.{MeansProbe}
 use Rattle.wy_headline.specs.Seen.{IsNeverStuck}
 
 -- of the commands that run programs, and of the one that looks for faults
 abbrev pub MeansAsked : Asked → Setting → ℕ → Sinks → Type 0
 MeansAsked (check source cert budget) s status k = ⊤
-MeansAsked (run source cert name arguments budget steps stats) s status k = MeansRun s source cert name arguments budget steps stats status k
+MeansAsked (run source cert name arguments budget steps stats) s status k = Headline s source cert name arguments budget steps stats status k
 MeansAsked (prove source output budget) s status k = ⊤
 MeansAsked (conds source) s status k = ⊤
 MeansAsked (fmt source) s status k = ⊤

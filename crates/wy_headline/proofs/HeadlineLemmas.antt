@@ -1,0 +1,184 @@
+-- The headline, put together.
+use Rattle.std.proofs.Common.{◌≡◌, ◌≢◌, ◌⊎◌, inl, inr, ◌∙◌, ℕ, List, [], Bool, Option, Some, None, Ok, Err, sym, ap, subst, arith}
+use Rattle.wy_port.specs.declared.files.LoadFault.{LoadFault}
+use Rattle.wy_port.specs.declared.files.LoadFault.TheVariants as load
+use Rattle.wy_top.specs.wy_top_answers.Answers.{refused as refusal}
+use Rattle.wy_top.specs.wy_top_answers.Showing.{Shown, ShowsWhole, Sinks}
+use Rattle.wy_top.specs.wy_top_answers.Steps.{Came, EndsFree, EndsOutside, Follows, IsOutside, IsTold, Setting, due, ends, failed, goes_on, memory, stated}
+use Rattle.wy_top.specs.wy_top_answers.Texts.{load_status, load_text}
+use Rattle.wy_top.specs.wy_top_answers.declared.answer.Answer.{Answer}
+use Rattle.wy_top.specs.wy_mach_run.Running.{state_of}
+use Rattle.wy_top.specs.Acceptance.{Acceptance, accepts_file}
+use Rattle.wy_top.specs.Exact.{IsElse}
+use Rattle.wy_top.specs.Launching.{run_steps, starts}
+use Rattle.wy_top.specs.Runs as code
+use Rattle.wy_top.specs.Statement as statement
+use Rattle.wy_top.specs.declared.launching.Launch.{Launch}
+use Rattle.wy_headline.specs.Headline.{Accepts, HasNoRun, Headline, IsBehind, RunsAreRight}
+use Rattle.wy_headline.specs.Runs.{Entry}
+use Rattle.wy_headline.specs.Started.{AcceptsFile, IsStarted}
+use Rattle.wy_headline.proofs.RunLemmas.{Shows, cut_off_of, enough_of, failed_of, result_of, spent_of, status_of}
+use Rattle.wy_headline.proofs.StartedLemmas.{IsRunOf, accepts_in, entry_of, faultless_run, file_due, is_start, launch_in, one_entry, right_run, run_due, run_of_steps}
+use Rattle.wy_headline.proofs.StepLemmas.{Refuses, err_is, file_refused, no_err, no_value, shown_else, value_is, whole_or}
+
+-- ---- behind acceptance
+
+-- a status that doesn't stand there
+apart : (n : ℕ) → n ≢ 0 → n ≢ 7 → n ≢ 8 → n ≢ 11 → IsBehind n → ⊥
+apart n a b c d (inl e) = a e
+apart n a b c d (inr (inl e)) = b e
+apart n a b c d (inr (inr (inl e))) = c e
+apart n a b c d (inr (inr (inr e))) = d e
+
+abbrev IsBefore : Answer → Type 0
+IsBefore a = IsBehind a.status → ⊥
+
+not_1 : IsBehind 1 → ⊥
+not_1 = apart 1 (λ e. omega (arith, e)) (λ e. omega (arith, e)) (λ e. omega (arith, e)) (λ e. omega (arith, e))
+
+not_3 : IsBehind 3 → ⊥
+not_3 = apart 3 (λ e. omega (arith, e)) (λ e. omega (arith, e)) (λ e. omega (arith, e)) (λ e. omega (arith, e))
+
+not_4 : IsBehind 4 → ⊥
+not_4 = apart 4 (λ e. omega (arith, e)) (λ e. omega (arith, e)) (λ e. omega (arith, e)) (λ e. omega (arith, e))
+
+not_5 : IsBehind 5 → ⊥
+not_5 = apart 5 (λ e. omega (arith, e)) (λ e. omega (arith, e)) (λ e. omega (arith, e)) (λ e. omega (arith, e))
+
+not_6 : IsBehind 6 → ⊥
+not_6 = apart 6 (λ e. omega (arith, e)) (λ e. omega (arith, e)) (λ e. omega (arith, e)) (λ e. omega (arith, e))
+
+not_9 : IsBehind 9 → ⊥
+not_9 = apart 9 (λ e. omega (arith, e)) (λ e. omega (arith, e)) (λ e. omega (arith, e)) (λ e. omega (arith, e))
+
+not_10 : IsBehind 10 → ⊥
+not_10 = apart 10 (λ e. omega (arith, e)) (λ e. omega (arith, e)) (λ e. omega (arith, e)) (λ e. omega (arith, e))
+
+before : Refuses IsBefore
+before = record { not_loaded = by; refuses = λ lines. not_1; no_certificates = λ lines. not_6 }
+  where
+    by : (f : LoadFault) (name : List ℕ) → IsBefore (refusal (load_status f) (load_text name f))
+    by load.Absent name = not_3
+    by load.TooLong name = not_10
+    by load.Failed name = not_4
+    by load.NoMemory name = not_9
+
+outside_before : (s : Setting) (a : Answer) → IsOutside s a → IsBefore a
+outside_before s a (memory e) = subst IsBefore (sym e) not_9
+outside_before s a (failed name e rose) = subst IsBefore (sym e) not_4
+
+-- an answer is shown whose status doesn't stand there
+shown_before : (a : Answer) (status : ℕ) (k : Sinks) → IsBefore a → Shown a status k → IsBehind status → ⊥
+shown_before a status k is (inl w) behind = is (subst IsBehind w.answer behind)
+shown_before a status k is (inr f) behind = not_5 (subst IsBehind f.answer behind)
+
+no_entry : (e : Entry) → Some e ≡ None → ⊥
+no_entry e is = absurd cc
+
+abbrev launched : Launch → Came Launch
+launched l = Ok l
+
+abbrev not_launched : Answer → Came Launch
+not_launched a = Err a
+
+module _ (s : Setting) (source cert name arguments : List ℕ) (budget steps : ℕ) (stats : Bool) (status : ℕ) (k : Sinks) where
+  -- ---- there is no run
+
+  stated_behind : (a : Answer) → run_steps s source cert name arguments budget stated (Err a) → Shown a status k → IsBehind status → Accepts s source cert budget
+  stated_behind a (goes_on x f g) shown behind = (x, accepts_in s source cert budget x f)
+  stated_behind a (ends b f e) shown behind =
+      absurd (shown_before a status k (subst IsBefore (sym (err_is a b e)) (file_refused IsBefore before s source cert budget b f)) shown behind)
+
+  refused_behind : (a : Answer) → HasNoRun s source cert name arguments budget a → Shown a status k → IsBehind status → Accepts s source cert budget
+  refused_behind a (inl h) shown behind = stated_behind a h shown behind
+  refused_behind a (inr outside) shown behind = absurd (shown_before a status k (outside_before s a outside) shown behind)
+
+  -- ---- what is due
+
+  -- of what came, nothing else is due
+  abbrev Only : Came Launch → Type 0
+  Only r = IsTold s → (other : Came Launch) → run_steps s source cert name arguments budget due other → (other ≡ r) ⊎ EndsFree s r
+
+  -- a refusal that is due
+  refusal_due : (b : Answer) (r : Came Launch) → statement.ShowsRun steps stats status k r → (Err b ≡ r) ⊎ EndsFree s r → ShowsWhole b status k ⊎ IsElse status
+  refusal_due b (Ok l) shown (inl e) = absurd (no_value l b e)
+  refusal_due b (Ok l) shown (inr free) = absurd free
+  refusal_due b (Err a) shown (inl e) = whole_or b status k (subst (λ (c : Answer). Shown c status k) (sym (err_is b a e)) shown)
+  refusal_due b (Err a) shown (inr free) = inr (shown_else s a status k free shown)
+
+  accepted_due : (r : Came Launch) → statement.ShowsRun steps stats status k r → Only r → IsTold s → (a : Acceptance) → AcceptsFile s source cert budget a → (b : Answer) → starts name arguments a due (Err b)
+      → ShowsWhole b status k ⊎ IsElse status
+  accepted_due r shown only told a file b is = refusal_due b r shown (only told (Err b) (goes_on a (file_due s source cert budget a file) is))
+
+  -- no run that is due was refused
+  refused_due : (a : Answer) → Shown a status k → (l : Launch) → (launched l ≡ not_launched a) ⊎ EndsFree s (not_launched a) → IsElse status
+  refused_due a shown l (inl e) = absurd (no_err l a e)
+  refused_due a shown l (inr free) = shown_else s a status k free shown
+
+  -- ---- both together
+
+  with_none : (a : Answer) → HasNoRun s source cert name arguments budget a → Shown a status k → Only (not_launched a) → Headline s source cert name arguments budget steps stats status k
+  with_none a none shown only = record {
+    run = None;
+    lines = [];
+    accepted = refused_behind a none shown;
+    accepted_where = accepted_due (Err a) shown only;
+    starts_only = tt;
+    starts_where = λ told its e h. inr (refused_due a shown (launch_in s source cert name arguments budget its e h) (only told _ (run_due s source cert name arguments budget its e h)));
+    refused = λ is. (a, none, shown);
+    never_faults = tt;
+    result = tt;
+    postcondition = tt;
+    spent = tt;
+    enough = tt;
+    status_is = tt;
+    sink_failed = tt;
+    no_memory = tt;
+  }
+
+  -- the run that is due is the one that came
+  same_run : (l : Launch) (of : IsRunOf s source cert name arguments budget l) → IsTold s → (its : List ℕ) (e : Entry) (h : IsStarted s source cert name arguments budget its e)
+      → (launched (launch_in s source cert name arguments budget its e h) ≡ launched l) ⊎ EndsFree s (launched l) → (Some (entry_of of.acceptance.program.core name arguments l.start of.launched.starts) ≡ Some e) ⊎ IsElse status
+  same_run l of told its e h (inl is) = inl (ap (λ (x : Entry). Some x) (one_entry s source cert name arguments budget its e h l of told (value_is _ l is)))
+  same_run l of told its e h (inr free) = absurd free
+
+  with_run : (l : Launch) → run_steps s source cert name arguments budget stated (Ok l) → statement.ShowsRun steps stats status k (Ok l) → Only (launched l) → Headline s source cert name arguments budget steps stats status k
+  with_run l came shown only =
+      let of = run_of_steps s source cert name arguments budget l came in
+      let core = of.acceptance.program.core in
+      let started = of.launched.starts in
+      let e = entry_of core name arguments l.start started in
+      let run = right_run s cert budget of.file.bytes of.acceptance of.file.accepts name arguments l.start started in
+      let sound = faultless_run s cert budget of.file.bytes of.acceptance of.file.accepts name arguments l.start started in
+      let st = state_of l.start steps in
+      let right = run.right steps in
+      let shows : Shows e l.lines stats steps status k st = subst (λ (b : Bool). code.Shows l.lines b stats st status k) started.has_result shown in
+      let is_of = status_of e l.lines stats steps status k st shows in
+      let result = result_of e l.lines stats steps status k st right shows in
+      let spent = spent_of e l.lines stats steps status k st right shows in
+      record {
+        run = Some e;
+        lines = l.lines;
+        accepted = λ behind. (of.acceptance, of.file);
+        accepted_where = accepted_due (Ok l) shown only;
+        starts_only = record { acceptance = of.acceptance; file = of.file; lines_are = of.launched.lines_are; starts = is_start core name arguments l.start started };
+        starts_where = λ told its f h. same_run l of told its f h (only told _ (run_due s source cert name arguments budget its f h));
+        refused = λ is. absurd (no_entry e is);
+        never_faults = sound.no_fault;
+        result = result;
+        postcondition = sound.fulfils;
+        spent = spent;
+        enough = enough_of e l.lines stats steps status k is_of result spent;
+        status_is = is_of;
+        sink_failed = failed_of e l.lines stats steps status k st right shows;
+        no_memory = cut_off_of e l.lines stats steps status k st right shows;
+      }
+
+  by_launch : (r : Came Launch) → run_steps s source cert name arguments budget stated r ⊎ EndsOutside s r → statement.ShowsRun steps stats status k r → Only r → Headline s source cert name arguments budget steps stats status k
+  by_launch (Ok l) (inl came) shown only = with_run l came shown only
+  by_launch (Ok l) (inr outside) shown only = absurd outside
+  by_launch (Err a) (inl came) shown only = with_none a (inl came) shown only
+  by_launch (Err a) (inr outside) shown only = with_none a (inr outside) shown only
+
+pub runs_right : RunsAreRight
+runs_right s source cert name arguments budget steps stats status k h = by_launch s source cert name arguments budget steps stats status k h.launch h.gives.comes h.shown h.gives.only
