@@ -1,5 +1,6 @@
 -- The headline, put together.
 use Rattle.std.proofs.Common.{◌≡◌, ◌≢◌, ◌⊎◌, inl, inr, ◌∙◌, ℕ, List, [], Bool, Option, Some, None, Ok, Err, sym, ap, subst, arith}
+use Rattle.std.specs.Prelude.{⊤}
 use Rattle.wy_port.specs.declared.files.LoadFault.{LoadFault}
 use Rattle.wy_port.specs.declared.files.LoadFault.TheVariants as load
 use Rattle.wy_top.specs.wy_top_answers.Answers.{refused as refusal}
@@ -9,50 +10,52 @@ use Rattle.wy_top.specs.wy_top_answers.Texts.{load_status, load_text}
 use Rattle.wy_top.specs.wy_top_answers.declared.answer.Answer.{Answer}
 use Rattle.wy_top.specs.wy_mach_run.Running.{state_of}
 use Rattle.wy_top.specs.Acceptance.{Acceptance, accepts_file}
-use Rattle.wy_top.specs.Exact.{IsElse}
 use Rattle.wy_top.specs.Launching.{run_steps, starts}
 use Rattle.wy_top.specs.Runs as code
 use Rattle.wy_top.specs.Statement as statement
 use Rattle.wy_top.specs.declared.launching.Launch.{Launch}
+use Rattle.wy_headline.specs.Accepted.{AcceptsFile, IsCutShort}
 use Rattle.wy_headline.specs.Headline.{Accepts, HasNoRun, Headline, IsBehind, RunsAreRight}
 use Rattle.wy_headline.specs.Runs.{Entry}
-use Rattle.wy_headline.specs.Started.{AcceptsFile, IsStarted}
+use Rattle.wy_headline.specs.Started.{IsStarted}
+use Rattle.wy_headline.proofs.ApartLemmas.{Apart, outside_apart, run_apart}
+use Rattle.wy_headline.proofs.ExactLemmas.{shown_short, whole_or}
 use Rattle.wy_headline.proofs.RunLemmas.{Shows, cut_off_of, enough_of, failed_of, result_of, spent_of, status_of}
 use Rattle.wy_headline.proofs.StartedLemmas.{IsRunOf, accepts_in, entry_of, faultless_run, file_due, is_start, launch_in, one_entry, right_run, run_due, run_of_steps}
-use Rattle.wy_headline.proofs.StepLemmas.{Refuses, err_is, file_refused, no_err, no_value, shown_else, value_is, whole_or}
+use Rattle.wy_headline.proofs.StepLemmas.{Refuses, err_is, file_refused, no_err, no_value, value_is}
 
 -- ---- behind acceptance
 
 -- a status that doesn't stand there
-apart : (n : ℕ) → n ≢ 0 → n ≢ 7 → n ≢ 8 → n ≢ 11 → IsBehind n → ⊥
-apart n a b c d (inl e) = a e
-apart n a b c d (inr (inl e)) = b e
-apart n a b c d (inr (inr (inl e))) = c e
-apart n a b c d (inr (inr (inr e))) = d e
+not_behind : (n : ℕ) → n ≢ 0 → n ≢ 7 → n ≢ 8 → n ≢ 11 → IsBehind n → ⊥
+not_behind n a b c d (inl e) = a e
+not_behind n a b c d (inr (inl e)) = b e
+not_behind n a b c d (inr (inr (inl e))) = c e
+not_behind n a b c d (inr (inr (inr e))) = d e
 
 abbrev IsBefore : Answer → Type 0
 IsBefore a = IsBehind a.status → ⊥
 
 not_1 : IsBehind 1 → ⊥
-not_1 = apart 1 (λ e. omega (arith, e)) (λ e. omega (arith, e)) (λ e. omega (arith, e)) (λ e. omega (arith, e))
+not_1 = not_behind 1 (λ e. omega (arith, e)) (λ e. omega (arith, e)) (λ e. omega (arith, e)) (λ e. omega (arith, e))
 
 not_3 : IsBehind 3 → ⊥
-not_3 = apart 3 (λ e. omega (arith, e)) (λ e. omega (arith, e)) (λ e. omega (arith, e)) (λ e. omega (arith, e))
+not_3 = not_behind 3 (λ e. omega (arith, e)) (λ e. omega (arith, e)) (λ e. omega (arith, e)) (λ e. omega (arith, e))
 
 not_4 : IsBehind 4 → ⊥
-not_4 = apart 4 (λ e. omega (arith, e)) (λ e. omega (arith, e)) (λ e. omega (arith, e)) (λ e. omega (arith, e))
+not_4 = not_behind 4 (λ e. omega (arith, e)) (λ e. omega (arith, e)) (λ e. omega (arith, e)) (λ e. omega (arith, e))
 
 not_5 : IsBehind 5 → ⊥
-not_5 = apart 5 (λ e. omega (arith, e)) (λ e. omega (arith, e)) (λ e. omega (arith, e)) (λ e. omega (arith, e))
+not_5 = not_behind 5 (λ e. omega (arith, e)) (λ e. omega (arith, e)) (λ e. omega (arith, e)) (λ e. omega (arith, e))
 
 not_6 : IsBehind 6 → ⊥
-not_6 = apart 6 (λ e. omega (arith, e)) (λ e. omega (arith, e)) (λ e. omega (arith, e)) (λ e. omega (arith, e))
+not_6 = not_behind 6 (λ e. omega (arith, e)) (λ e. omega (arith, e)) (λ e. omega (arith, e)) (λ e. omega (arith, e))
 
 not_9 : IsBehind 9 → ⊥
-not_9 = apart 9 (λ e. omega (arith, e)) (λ e. omega (arith, e)) (λ e. omega (arith, e)) (λ e. omega (arith, e))
+not_9 = not_behind 9 (λ e. omega (arith, e)) (λ e. omega (arith, e)) (λ e. omega (arith, e)) (λ e. omega (arith, e))
 
 not_10 : IsBehind 10 → ⊥
-not_10 = apart 10 (λ e. omega (arith, e)) (λ e. omega (arith, e)) (λ e. omega (arith, e)) (λ e. omega (arith, e))
+not_10 = not_behind 10 (λ e. omega (arith, e)) (λ e. omega (arith, e)) (λ e. omega (arith, e)) (λ e. omega (arith, e))
 
 before : Refuses IsBefore
 before = record { not_loaded = by; refuses = λ lines. not_1; no_certificates = λ lines. not_6 }
@@ -95,36 +98,47 @@ module _ (s : Setting) (source cert name arguments : List ℕ) (budget steps : �
 
   -- ---- what is due
 
+  none_apart : (a : Answer) → HasNoRun s source cert name arguments budget a → Apart a
+  none_apart a (inl h) = run_apart s source cert name arguments budget a h
+  none_apart a (inr h) = outside_apart s a h
+
+  -- where there is no run, the status isn't 13
+  abbrev IsApart : Came Launch → Type 0
+  IsApart (Ok l) = ⊤
+  IsApart (Err a) = Apart a
+
   -- of what came, nothing else is due
   abbrev Only : Came Launch → Type 0
   Only r = IsTold s → (other : Came Launch) → run_steps s source cert name arguments budget due other → (other ≡ r) ⊎ EndsFree s r
 
   -- a refusal that is due
-  refusal_due : (b : Answer) (r : Came Launch) → statement.ShowsRun steps stats status k r → (Err b ≡ r) ⊎ EndsFree s r → ShowsWhole b status k ⊎ IsElse status
-  refusal_due b (Ok l) shown (inl e) = absurd (no_value l b e)
-  refusal_due b (Ok l) shown (inr free) = absurd free
-  refusal_due b (Err a) shown (inl e) = whole_or b status k (subst (λ (c : Answer). Shown c status k) (sym (err_is b a e)) shown)
-  refusal_due b (Err a) shown (inr free) = inr (shown_else s a status k free shown)
+  refusal_due : (b : Answer) (r : Came Launch) → IsApart r → statement.ShowsRun steps stats status k r → (Err b ≡ r) ⊎ EndsFree s r → ShowsWhole b status k ⊎ IsCutShort s status k
+  refusal_due b (Ok l) apart shown (inl e) = absurd (no_value l b e)
+  refusal_due b (Ok l) apart shown (inr free) = absurd free
+  refusal_due b (Err a) apart shown (inl e) = whole_or s status k b (subst (λ (c : Answer). Shown c status k) (sym (err_is b a e)) shown)
+  refusal_due b (Err a) apart shown (inr free) = inr (shown_short s status k a apart free shown)
 
-  accepted_due : (r : Came Launch) → statement.ShowsRun steps stats status k r → Only r → IsTold s → (a : Acceptance) → AcceptsFile s source cert budget a → (b : Answer) → starts name arguments a due (Err b)
-      → ShowsWhole b status k ⊎ IsElse status
-  accepted_due r shown only told a file b is = refusal_due b r shown (only told (Err b) (goes_on a (file_due s source cert budget a file) is))
+  accepted_due : (r : Came Launch) → IsApart r → statement.ShowsRun steps stats status k r → Only r → IsTold s → (a : Acceptance) → AcceptsFile s source cert budget a → (b : Answer) → starts name arguments a due (Err b)
+      → ShowsWhole b status k ⊎ IsCutShort s status k
+  accepted_due r apart shown only told a file b is = refusal_due b r apart shown (only told (Err b) (goes_on a (file_due s source cert budget a file) is))
 
   -- no run that is due was refused
-  refused_due : (a : Answer) → Shown a status k → (l : Launch) → (launched l ≡ not_launched a) ⊎ EndsFree s (not_launched a) → IsElse status
-  refused_due a shown l (inl e) = absurd (no_err l a e)
-  refused_due a shown l (inr free) = shown_else s a status k free shown
+  refused_due : (a : Answer) → Apart a → Shown a status k → (l : Launch) → (launched l ≡ not_launched a) ⊎ EndsFree s (not_launched a) → IsCutShort s status k
+  refused_due a apart shown l (inl e) = absurd (no_err l a e)
+  refused_due a apart shown l (inr free) = shown_short s status k a apart free shown
 
   -- ---- both together
 
   with_none : (a : Answer) → HasNoRun s source cert name arguments budget a → Shown a status k → Only (not_launched a) → Headline s source cert name arguments budget steps stats status k
-  with_none a none shown only = record {
+  with_none a none shown only =
+    let apart = none_apart a none in
+    record {
     run = None;
     lines = [];
     accepted = refused_behind a none shown;
-    accepted_where = accepted_due (Err a) shown only;
+    accepted_where = accepted_due (Err a) apart shown only;
     starts_only = tt;
-    starts_where = λ told its e h. inr (refused_due a shown (launch_in s source cert name arguments budget its e h) (only told _ (run_due s source cert name arguments budget its e h)));
+    starts_where = λ told its e h. inr (refused_due a apart shown (launch_in s source cert name arguments budget its e h) (only told _ (run_due s source cert name arguments budget its e h)));
     refused = λ is. (a, none, shown);
     never_faults = tt;
     result = tt;
@@ -138,7 +152,7 @@ module _ (s : Setting) (source cert name arguments : List ℕ) (budget steps : �
 
   -- the run that is due is the one that came
   same_run : (l : Launch) (of : IsRunOf s source cert name arguments budget l) → IsTold s → (its : List ℕ) (e : Entry) (h : IsStarted s source cert name arguments budget its e)
-      → (launched (launch_in s source cert name arguments budget its e h) ≡ launched l) ⊎ EndsFree s (launched l) → (Some (entry_of of.acceptance.program.core name arguments l.start of.launched.starts) ≡ Some e) ⊎ IsElse status
+      → (launched (launch_in s source cert name arguments budget its e h) ≡ launched l) ⊎ EndsFree s (launched l) → (Some (entry_of of.acceptance.program.core name arguments l.start of.launched.starts) ≡ Some e) ⊎ IsCutShort s status k
   same_run l of told its e h (inl is) = inl (ap (λ (x : Entry). Some x) (one_entry s source cert name arguments budget its e h l of told (value_is _ l is)))
   same_run l of told its e h (inr free) = absurd free
 
@@ -160,7 +174,7 @@ module _ (s : Setting) (source cert name arguments : List ℕ) (budget steps : �
         run = Some e;
         lines = l.lines;
         accepted = λ behind. (of.acceptance, of.file);
-        accepted_where = accepted_due (Ok l) shown only;
+        accepted_where = accepted_due (Ok l) tt shown only;
         starts_only = record { acceptance = of.acceptance; file = of.file; lines_are = of.launched.lines_are; starts = is_start core name arguments l.start started };
         starts_where = λ told its f h. same_run l of told its f h (only told _ (run_due s source cert name arguments budget its f h));
         refused = λ is. absurd (no_entry e is);

@@ -13,7 +13,7 @@ use Rattle.wy_top.specs.Launching.{starts}
 use Rattle.wy_top.specs.Programs.{count_of}
 use Rattle.wy_top.specs.declared.launching.Launch.{Launch}
 use Rattle.wy_headline.specs.Large.{AnswersLarge, ComesToLarge, LargeRunsAreRight, large_start, line_written, ran_large, refused_large, steps_spend}
-use Rattle.wy_headline.specs.Started.{AcceptsBytes}
+use Rattle.wy_headline.specs.Accepted.{AcceptsBytes}
 use Rattle.wy_headline.specs.Runs.{Entry}
 use Rattle.wy_headline.proofs.RunLemmas.{IsOf}
 use Rattle.wy_headline.proofs.StartedLemmas.{accepts_bytes, entry_of, faultless_run, is_start, right_run}

@@ -2,7 +2,11 @@ pub mod SourceLemmas
 pub mod FaultLemmas
 pub mod AcceptedLemmas
 pub mod StepLemmas
+pub mod ApartLemmas
+pub mod ExactLemmas
+pub mod CertifiedLemmas
 pub mod StartedLemmas
+pub mod CheckLemmas
 pub mod RunLemmas
 pub mod HeadlineLemmas
 pub mod LargeLemmas

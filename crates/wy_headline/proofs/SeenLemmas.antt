@@ -1,31 +1,25 @@
 -- Status 13 comes of `prove` alone, for a condition that was found and not certified.
 use Rattle.std.proofs.Common.{◌≡◌, ◌≢◌, ◌⊎◌, inl, inr, ℕ, List, Bool, true, false, Option, Some, None, IfSome, Ok, Err, refl, sym, ◌∙◌, ap, subst, arith}
 use Rattle.wy_top.specs.wy_top_answers.Answers.{refused, no_memory}
-use Rattle.wy_top.specs.wy_top_answers.Calls.{Faults, IsFaulted}
 use Rattle.wy_top.specs.wy_top_answers.Showing.{Shown, Sinks}
-use Rattle.wy_top.specs.wy_top_answers.Steps.{Came, EndsOutside, Follows, goes_on, ends, IsOutside, Sense, Setting, answer_in, failed, memory, stated}
-use Rattle.wy_top.specs.wy_top_answers.Texts.{load_status, load_text, not_certified}
+use Rattle.wy_top.specs.wy_top_answers.Steps.{Came, EndsOutside, Setting, stated}
+use Rattle.wy_top.specs.wy_top_answers.Texts.{not_certified}
 use Rattle.wy_top.specs.wy_top_answers.declared.answer.Answer.{Answer}
 use Rattle.wy_core.specs.CoreTree.{Core}
 use Rattle.wy_port.specs.Taken.{with_taken}
-use Rattle.wy_port.specs.declared.files.LoadFault.{LoadFault}
-use Rattle.wy_port.specs.declared.files.LoadFault.TheVariants as load
-use Rattle.wy_top.specs.wy_mach_run.declared.fault.StartFault.{StartFault}
-use Rattle.wy_top.specs.wy_mach_run.declared.fault.StartFault.TheVariants as start
 use Rattle.wy_top.specs.wy_top_answers.supplied.Certificates.{no_file}
 use Rattle.wy_top.specs.wy_top_answers.report.Lines.{save_failed, words_refused}
 use Rattle.wy_top_big.specs.Source.{argument_text, entry}
 use Rattle.wy_top.specs.wy_probe.Trials.{Finding, Faulted, Faultless}
-use Rattle.wy_top.specs.Acceptance.{Acceptance, are_closed, check_steps}
+use Rattle.wy_top.specs.Acceptance.{are_closed, check_steps}
 use Rattle.wy_top.specs.wy_batch.Known.{Known}
 use Rattle.wy_top.specs.Large.{large_name, makes_one}
-use Rattle.wy_top.specs.Launching.{fault_status, run_steps, starts}
 use Rattle.wy_top.specs.Probing.{IsProbed, enters, found_answer, probe_steps, reads}
 use Rattle.wy_top.specs.Programs.{Program}
 use Rattle.wy_top.specs.Proofs.{IsJudged, proof_answer, proves_file}
 use Rattle.wy_top.specs.Saves.{Saves, Saving}
 use Rattle.wy_top.specs.Saves as saves
-use Rattle.wy_top.specs.Statement.{Does, DoesIf, IsAnswered, ShowsProof}
+use Rattle.wy_top.specs.Statement.{Does, DoesIf, ShowsProof}
 use Rattle.wy_top.specs.Texts.{source_for, text, text_steps}
 use Rattle.wy_top.specs.declared.texts.Text.{Text}
 use Rattle.wy_top.specs.declared.texts.Text.TheVariants as kind_of
@@ -36,25 +30,14 @@ use Rattle.wy_headline.specs.Runs.{Entry}
 use Rattle.wy_headline.specs.Seen.{IsNeverStuck, IsNotCertified, NeverSticks}
 use Rattle.wy_headline.proofs.HeadlineLemmas.{runs_right}
 use Rattle.wy_headline.proofs.LargeLemmas.{large_right}
-use Rattle.wy_headline.proofs.StepLemmas.{Refuses, alone_refused, file_refused, loaded_refused, no_err, no_value, of_steps, owes_refused, source_refused, value_is}
+use Rattle.wy_headline.proofs.ApartLemmas.{Apart, answered_apart, check_bad, check_good, faulted_apart, no_0, no_1, no_10, no_12, no_2, no_5, no_7, no_8, no_9, none_is, other, others, outside_apart, run_apart, shown_apart, starts_apart, value_apart}
+use Rattle.wy_headline.proofs.StepLemmas.{alone_refused, loaded_refused, no_value, of_steps, owes_refused, source_refused, value_is}
 
--- ---- answers
-
--- its status isn't 13
-abbrev Apart : Answer → Type 0
-Apart a = a.status ≢ 13
+-- ---- what is found and not certified
 
 -- where its status is 13, it is the line for a condition that was found and not certified
 abbrev Fine : Answer → Type 0
 Fine a = a.status ≡ 13 → a ≡ refused 13 not_certified
-
-status_of : Answer → ℕ
-status_of a = a.status
-
--- an answer with another status
-other : (n : ℕ) (a b : Answer) → a ≡ b → b.status ≡ n → n ≢ 13 → Apart a
-unfolding status_of
-other n a b is of apart e = absurd (apart (sym of ∙ (sym (ap status_of is) ∙ e)))
 
 fine : (a : Answer) → Apart a → Fine a
 fine a apart e = absurd (apart e)
@@ -62,118 +45,13 @@ fine a apart e = absurd (apart e)
 found : (a : Answer) → a ≡ refused 13 not_certified → Fine a
 found a is e = is
 
-no_0 : ◌≢◌ {A = ℕ} 0 13
-no_0 e = omega (arith, e)
-
-no_1 : ◌≢◌ {A = ℕ} 1 13
-no_1 e = omega (arith, e)
-
-no_2 : ◌≢◌ {A = ℕ} 2 13
-no_2 e = omega (arith, e)
-
-no_3 : ◌≢◌ {A = ℕ} 3 13
-no_3 e = omega (arith, e)
-
-no_4 : ◌≢◌ {A = ℕ} 4 13
-no_4 e = omega (arith, e)
-
-no_5 : ◌≢◌ {A = ℕ} 5 13
-no_5 e = omega (arith, e)
-
-no_6 : ◌≢◌ {A = ℕ} 6 13
-no_6 e = omega (arith, e)
-
-no_7 : ◌≢◌ {A = ℕ} 7 13
-no_7 e = omega (arith, e)
-
-no_8 : ◌≢◌ {A = ℕ} 8 13
-no_8 e = omega (arith, e)
-
-no_9 : ◌≢◌ {A = ℕ} 9 13
-no_9 e = omega (arith, e)
-
-no_10 : ◌≢◌ {A = ℕ} 10 13
-no_10 e = omega (arith, e)
-
-no_11 : ◌≢◌ {A = ℕ} 11 13
-no_11 e = omega (arith, e)
-
-no_12 : ◌≢◌ {A = ℕ} 12 13
-no_12 e = omega (arith, e)
-
-shown_apart : (a : Answer) (status : ℕ) (k : Sinks) → Apart a → Shown a status k → status ≢ 13
-shown_apart a status k apart (inl w) e = apart (sym w.answer ∙ e)
-shown_apart a status k apart (inr f) e = let five = f.answer in omega (arith, five, e)
-
 shown_fine : (a : Answer) (status : ℕ) (k : Sinks) → Fine a → Shown a status k → IsNotCertified status k
 shown_fine a status k is_fine (inl w) e =
     let is = is_fine (sym w.answer ∙ e) in
     (subst (λ (b : Answer). k.out_after ≡ with_taken k.out_before b.out) is w.out, subst (λ (b : Answer). k.err_after ≡ with_taken k.err_before b.err) is w.err)
 shown_fine a status k is_fine (inr f) e = let five = f.answer in absurd (omega (arith, five, e))
 
--- another status
-others : (n status : ℕ) → status ≡ n → n ≢ 13 → status ≢ 13
-others n status is apart e = absurd (apart (sym is ∙ e))
-
--- ---- steps
-
-outside_apart : (s : Setting) (a : Answer) → IsOutside s a → Apart a
-outside_apart s a (memory e) = other 9 a _ e refl no_9
-outside_apart s a (failed name e rose) = other 4 a _ e refl no_4
-
--- why a source isn't accepted
-none_is : Refuses Apart
-none_is = record { not_loaded = by; refuses = λ lines. no_1; no_certificates = λ lines. no_6 }
-  where
-    by : (f : LoadFault) (name : List ℕ) → Apart (refused (load_status f) (load_text name f))
-    by load.Absent name = no_3
-    by load.TooLong name = no_10
-    by load.Failed name = no_4
-    by load.NoMemory name = no_9
-
--- a fault of another status
-faulted_apart : {F : Type 0} (faults : Faults F) (there : F → Type 0) → ((f : F) → faults.status f ≢ 13) → (a : Answer) → IsFaulted faults there a → Apart a
-faulted_apart faults there apart a h = other (faults.status h.fault) a _ h.answer refl (apart h.fault)
-
-start_status : (f : StartFault) → fault_status f ≢ 13
-start_status start.NoEntry = no_7
-start_status (start.Argument fault) = no_7
-start_status (start.OtherCount count) = no_7
-start_status (start.OtherType number) = no_7
-start_status (start.RequiresFails number) = no_7
-start_status start.TurnsSpent = no_11
-start_status start.NoMemory = no_9
-
-starts_apart : (name arguments : List ℕ) (a : Acceptance) (b : Answer) → starts name arguments a stated (Err b) → Apart b
-starts_apart name arguments a b h = faulted_apart _ _ start_status b h
-
-run_apart : (s : Setting) (source cert name arguments : List ℕ) (budget : ℕ) (a : Answer) → run_steps s source cert name arguments budget stated (Err a) → Apart a
-run_apart s source cert name arguments budget a h = of_steps Apart _ _ (λ b g. file_refused Apart none_is s source cert budget b g) (λ x b g. starts_apart name arguments x b g) a h
-
 -- ---- commands that answer
-
--- what steps come to has another status, where it came from outside too
-of_last : (s : Setting) (step : Sense → Came Answer → Type 0) → ((a : Answer) → step stated (Ok a) → Apart a) → ((a : Answer) → step stated (Err a) → Apart a)
-    → (last : Came Answer) → step stated last ⊎ EndsOutside s last → Apart (answer_in last)
-of_last s step good bad (Ok a) (inl h) = good a h
-of_last s step good bad (Ok a) (inr h) = absurd h
-of_last s step good bad (Err a) (inl h) = bad a h
-of_last s step good bad (Err a) (inr h) = outside_apart s a h
-
-answered_apart : (s : Setting) (step : Sense → Came Answer → Type 0) → ((a : Answer) → step stated (Ok a) → Apart a) → ((a : Answer) → step stated (Err a) → Apart a)
-    → (status : ℕ) (k : Sinks) → IsAnswered s step status k → status ≢ 13
-answered_apart s step good bad status k h = shown_apart h.answer status k (subst Apart (sym h.answers.is) (of_last s step good bad h.answers.last h.answers.gives.comes)) h.shown
-
--- what stands last in two steps
-value_apart : {X : Type 0} (first : Came X → Type 0) (next : X → Came Answer → Type 0) → ((x : X) (a : Answer) → next x (Ok a) → Apart a) → (a : Answer) → Follows first next (Ok a) → Apart a
-value_apart first next two a (goes_on x h g) = two x a g
-value_apart first next two a (ends b h e) = absurd (no_err a b e)
-
-check_good : (s : Setting) (source cert : List ℕ) (budget : ℕ) (a : Answer) → check_steps s source cert budget stated (Ok a) → Apart a
-check_good s source cert budget a h = value_apart _ _ (λ x b g. other 0 b _ (value_is b _ g) refl no_0) a h
-
-check_bad : (s : Setting) (source cert : List ℕ) (budget : ℕ) (a : Answer) → check_steps s source cert budget stated (Err a) → Apart a
-check_bad s source cert budget a h = of_steps Apart _ _ (λ b g. file_refused Apart none_is s source cert budget b g) (λ x b g. absurd (no_value _ b g)) a h
 
 text_good : (s : Setting) (kind : Text) (source : List ℕ) (a : Answer) → text_steps s kind source stated (Ok a) → Apart a
 text_good s kind source a h = value_apart _ _ (λ x b g. other 0 b _ (value_is b _ g) refl no_0) a h

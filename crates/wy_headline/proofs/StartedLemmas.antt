@@ -1,5 +1,5 @@
 -- Which program is started: read off the steps of a command, and the other way round; and that its run is right.
-use Rattle.std.proofs.Common.{◌≡◌, ◌≢◌, ◌∙◌, ℕ, zero, suc, List, [], ◌∷◌, map, Option, Some, None, Ok, is_some, refl, sym, ap, subst}
+use Rattle.std.proofs.Common.{◌≡◌, ◌≢◌, ◌∙◌, ℕ, zero, suc, List, [], ◌∷◌, map, true, Option, Some, None, Ok, is_some, refl, sym, ap, subst}
 use Rattle.std.specs.Prelude.{slice_get}
 use Rattle.wy_port.specs.Told.{Told, MayBe}
 use Rattle.wy_port.specs.Told.Told.{Unknown, Lacking, Holding}
@@ -22,6 +22,7 @@ use Rattle.wy_top.specs.wy_mach_run.sound.Results.{IsFaultless}
 use Rattle.wy_top.specs.wy_mach_run.sound.Runs.{RunsRightly}
 use Rattle.wy_top.specs.wy_code_spec.step.Step.{State, Runs, Ended, Stuck}
 use Rattle.wy_headline.proofs.AcceptedLemmas.{sources_rightly}
+use Rattle.wy_headline.proofs.CertifiedLemmas.{certified_all, closed_all}
 use Rattle.wy_headline.proofs.FaultLemmas.{faultless, values_bounded}
 use Rattle.wy_headline.proofs.SourceLemmas.{source_shown}
 use Rattle.wy_headline.proofs.StepLemmas.{both_came, value_is}
@@ -34,7 +35,7 @@ use Rattle.wy_top.proofs.wy_link_load_proofs.AloneLemmas.{takes_nothing}
 use Rattle.wy_top.proofs.wy_top_source_proofs.OneLemmas.{one_core}
 use Rattle.wy_top.specs.wy_top_answers.supplied.Certificates.{certificates, from_file, without}
 use Rattle.wy_top.specs.wy_top_source.Sources.{IsProgram}
-use Rattle.wy_top.specs.Acceptance.{Acceptance, IsAccepted, accepts_file, accepts_source}
+use Rattle.wy_top.specs.Acceptance.{Acceptance, IsAccepted, accepts_file, accepts_source, are_closed}
 use Rattle.wy_top.specs.Going.{AcceptedRunsGo}
 use Rattle.wy_top.specs.Launching.{IsLaunched, run_steps}
 use Rattle.wy_top.specs.Owed.{Owes}
@@ -44,8 +45,9 @@ use Rattle.wy_top.proofs.ShownLemmas.{closed_is_true}
 use Rattle.wy_value.specs.Datum.{Datum}
 use Rattle.wy_value.specs.Seen.{seen}
 use Rattle.wy_value.specs.declared.value.Value.{Value}
+use Rattle.wy_headline.specs.Accepted.{AcceptedIsTrue, AcceptsBytes, AcceptsFile}
 use Rattle.wy_headline.specs.Runs.{Entry}
-use Rattle.wy_headline.specs.Started.{AcceptedIsTrue, AcceptsBytes, AcceptsFile, IsStart, IsStarted}
+use Rattle.wy_headline.specs.Started.{IsStart, IsStarted}
 
 -- ---- acceptance that came
 
@@ -58,7 +60,16 @@ record AcceptedAs (s : Setting) (cert : List ℕ) (budget : ℕ) (bytes : List �
 kept : (s : Setting) (cert : List ℕ) (budget : ℕ) (bytes : List ℕ) (certs : Certificates) (a : Acceptance) (p : Program) → AcceptedAs s cert budget bytes certs a p → AcceptsBytes s cert budget bytes a
 kept s cert budget bytes certs a p h =
     let g = subst (AcceptedAs s cert budget bytes certs a) (sym h.accepted.program) h in
-    record { owes = g.owes; certs = certs; given = g.given; accepted = g.accepted }
+    let is = g.accepted in
+    record {
+      owes = g.owes;
+      certs = certs;
+      given = g.given;
+      certified = certified_all certs budget 1 (conditions_of a.program) is.verdicts is.known is.closed;
+      verdicts = is.verdicts;
+      known = is.known;
+      lines = is.lines;
+    }
 
 pub accepts_bytes : (s : Setting) (source cert : List ℕ) (budget : ℕ) (bytes : List ℕ) (a : Acceptance) → accepts_source s source cert budget bytes stated (Ok a) → AcceptsBytes s cert budget bytes a
 accepts_bytes s source cert budget bytes a h =
@@ -82,8 +93,12 @@ alone_due s name bytes h =
     let taken : takes_with file h.program.imports due (Ok bytes) = subst (λ (imports : List (List ℕ × ℕ)). takes_with file imports due (Ok bytes)) (sym h.nothing) refl in
     goes_on all (goes_on file read behind) taken
 
+closed_so : (s : Setting) (cert : List ℕ) (budget : ℕ) (bytes : List ℕ) (a : Acceptance) (h : AcceptsBytes s cert budget bytes a) → are_closed h.verdicts ≡ true
+closed_so s cert budget bytes a h = closed_all h.certs budget 1 (conditions_of a.program) h.verdicts h.known h.certified
+
 pub bytes_due : (s : Setting) (source cert : List ℕ) (budget : ℕ) (bytes : List ℕ) (a : Acceptance) → AcceptsBytes s cert budget bytes a → accepts_source s source cert budget bytes due (Ok a)
-bytes_due s source cert budget bytes a h = goes_on a.program h.owes (goes_on h.certs h.given h.accepted)
+bytes_due s source cert budget bytes a h =
+    goes_on a.program h.owes (goes_on h.certs h.given (record { program = refl; verdicts = h.verdicts; known = h.known; closed = closed_so s cert budget bytes a h; lines = h.lines }))
 
 pub file_due : (s : Setting) (source cert : List ℕ) (budget : ℕ) (a : Acceptance) → AcceptsFile s source cert budget a → accepts_file s source cert budget due (Ok a)
 file_due s source cert budget a h = goes_on h.bytes (alone_due s source h.bytes h.alone) (bytes_due s source cert budget h.bytes a h.accepts)
@@ -97,8 +112,8 @@ given_sorted s name count certs (from_file is h) = let f = both_came _ _ certs h
 -- its conditions are true
 pub accepted_hold : AcceptedIsTrue
 accepted_hold s cert budget bytes a h =
-    closed_is_true h.certs budget 1 (conditions_of a.program) h.accepted.verdicts (given_sorted s cert (count_of a.program) h.certs h.given)
-    (premises_met a.program.core a.program.flow) h.accepted.known h.accepted.closed
+    closed_is_true h.certs budget 1 (conditions_of a.program) h.verdicts (given_sorted s cert (count_of a.program) h.certs h.given)
+    (premises_met a.program.core a.program.flow) h.known (closed_so s cert budget bytes a h)
 
 same_bytes : (t : Told) (bs cs : List ℕ) → t ≢ Unknown → MayBe t bs → MayBe t cs → bs ≡ cs
 same_bytes Unknown bs cs told b c = absurd (told refl)

@@ -1,18 +1,16 @@
 -- Steps one behind the other, and the answers with which they end.
-use Rattle.std.proofs.Common.{◌≡◌, ◌≢◌, ◌⊎◌, inl, inr, ℕ, List, [], Ok, Err, sym, ap, subst}
+use Rattle.std.proofs.Common.{◌≡◌, ℕ, List, [], Ok, Err, sym, subst}
 use Rattle.wy_port.specs.declared.files.LoadFault.{LoadFault}
 use Rattle.wy_top.specs.wy_cert.Steps.{Certificates}
 use Rattle.wy_top.specs.wy_link_load.Alone.{loads_alone}
 use Rattle.wy_top.specs.wy_top_answers.Answers.{refused}
 use Rattle.wy_top.specs.wy_top_answers.Loading.{loaded}
-use Rattle.wy_top.specs.wy_top_answers.Showing.{Shown, ShowsWhole, Sinks}
-use Rattle.wy_top.specs.wy_top_answers.Steps.{Came, Follows, IsFree, IsOutside, Setting, ends, failed, from_outside, goes_on, memory, stated, uncertified}
+use Rattle.wy_top.specs.wy_top_answers.Steps.{Came, Follows, Setting, ends, goes_on, stated}
 use Rattle.wy_top.specs.wy_top_answers.Texts.{load_status, load_text}
 use Rattle.wy_top.specs.wy_top_answers.declared.answer.Answer.{Answer}
 use Rattle.wy_top.specs.wy_top_answers.supplied.Certificates.{certificates, from_file, without}
 use Rattle.wy_top.proofs.wy_link_load_proofs.AnswerLemmas.{Covers, alone_covered}
 use Rattle.wy_top.specs.Acceptance.{accepts, accepts_file, accepts_source}
-use Rattle.wy_top.specs.Exact.{IsElse}
 use Rattle.wy_top.specs.Programs.{Program, owes}
 
 -- ---- what a step came to
@@ -75,26 +73,3 @@ module _ (P : Answer → Type 0) (c : Refuses P) where
 
   pub file_refused : (s : Setting) (name cert : List ℕ) (budget : ℕ) (a : Answer) → accepts_file s name cert budget stated (Err a) → P a
   file_refused s name cert budget a h = of_steps P _ _ (λ b g. alone_refused s name b g) (λ bytes b g. source_refused s name cert budget bytes b g) a h
-
--- ---- answers in place of which another one may be due
-
-pub whole_or : (a : Answer) (status : ℕ) (k : Sinks) → Shown a status k → ShowsWhole a status k ⊎ IsElse status
-whole_or a status k (inl w) = inl w
-whole_or a status k (inr f) = inr (inr (inl f.answer))
-
-status_of : Answer → ℕ
-status_of a = a.status
-
-outside_else : (s : Setting) (a : Answer) → IsOutside s a → IsElse a.status
-unfolding status_of
-outside_else s a (memory e) = inr (inr (inl (ap status_of e)))
-outside_else s a (failed name e rose) = inl (ap status_of e)
-
-free_else : (s : Setting) (a : Answer) → IsFree s a → IsElse a.status
-unfolding status_of
-free_else s a (from_outside o) = outside_else s a o
-free_else s a (uncertified e) = inr (inr (inr (ap status_of e)))
-
-pub shown_else : (s : Setting) (a : Answer) (status : ℕ) (k : Sinks) → IsFree s a → Shown a status k → IsElse status
-shown_else s a status k free (inl w) = subst IsElse (sym w.answer) (free_else s a free)
-shown_else s a status k free (inr f) = inr (inl f.answer)

@@ -17,8 +17,9 @@ use Rattle.wy_top.specs.Programs.{count_of}
 use Rattle.wy_top.specs.Statement.{IsAnswered}
 use Rattle.wy_top.specs.declared.launching.Launch.{Launch}
 use Rattle.wy_value.specs.Datum.{Datum}
+use Rattle.wy_headline.specs.Accepted.{AcceptsBytes}
 use Rattle.wy_headline.specs.Runs.{Entry, IsDone, MeetsPostcondition, NeverFaults, wrote}
-use Rattle.wy_headline.specs.Started.{AcceptsBytes, IsStart}
+use Rattle.wy_headline.specs.Started.{IsStart}
 
 -- the source that is made is accepted, and this is its entry, with its values
 pub record IsLargeRun (s : Setting) (functions seed budget : ℕ) (e : Entry) : Type 0 where

@@ -1,7 +1,8 @@
 -- what public contracts cite
 pub mod Headline
-pub mod Runs
+pub mod Accepted
 pub mod Started
+pub mod Runs
 pub mod Large
 pub mod Probes
 pub mod Seen

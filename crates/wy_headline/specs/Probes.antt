@@ -16,7 +16,7 @@ use Rattle.wy_top.specs.Acceptance.{Acceptance}
 use Rattle.wy_top.specs.Exact.{IsElse}
 use Rattle.wy_top.specs.Probing.{found_answer, probe_steps}
 use Rattle.wy_top.specs.Statement.{IsAnswered}
-use Rattle.wy_headline.specs.Started.{AcceptsBytes}
+use Rattle.wy_headline.specs.Accepted.{AcceptsBytes}
 
 -- The bytes are a typed and assigned program with a function or method of this name. One of its first so many tuples, not undecided, meets the precondition, and the value semantics faults on it within so many ticks: this is the first such tuple.
 pub record Faults (bytes name : List ℕ) (tuples ticks : ℕ) : Type 0 where

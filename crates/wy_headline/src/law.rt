@@ -1,14 +1,20 @@
 //! What is known of the commands that run programs, and of the one that looks for faults.
+ghost use Rattle.wy_headline.specs.Accepted.{AcceptedIsTrue, ChecksAreRight};
 ghost use Rattle.wy_headline.specs.Headline.{RunsAreRight};
 ghost use Rattle.wy_headline.specs.Large.{LargeRunsAreRight};
 ghost use Rattle.wy_headline.specs.Means.{CallsMean};
 ghost use Rattle.wy_headline.specs.Probes.{ProbesAreRight};
 ghost use Rattle.wy_headline.specs.Seen.{NeverSticks};
-ghost use Rattle.wy_headline.specs.Started.{AcceptedIsTrue};
 
 /// All conditions of a program that is accepted are true.
 pub fn accepted_conditions_are_true()
     ensures hold { AcceptedIsTrue }
+{}
+
+/// The command `check`. Status 0 comes only where the program is accepted, with the line that says so. Where files are told and it
+/// is accepted, that is what comes, but for a failed load (4) and a failed sink (5), each of them counted, and want of memory (9).
+pub fn checks_are_right()
+    ensures right { ChecksAreRight }
 {}
 
 /// The command `run`: the headline, part by part. The program is accepted exactly where it is typed, assigned and within the limits,

@@ -6,7 +6,7 @@
 //!
 //! `run_words` of wy_top says what a run writes by the steps of the code. Here the laws of soundness and of code are put to
 //! that: `specs/Headline` is the sentence on the command `run`, part by part, `specs/Runs` what a run does and what the sinks take of
-//! it, `specs/Started` which program is accepted and started, `specs/Large` what the command `big` comes to, `specs/Probes` what the
+//! it, `specs/Accepted` which program is accepted, `specs/Started` which is started, `specs/Large` what the command `big` comes to, `specs/Probes` what the
 //! one shows that looks for faults, `specs/Seen` that no call has status 13 but one of `prove`, for a condition that was found and
 //! not certified, and `specs/Means` all of it of a call.
 #![tactic(auto)]
@@ -21,6 +21,6 @@ pub use accepted_runs::{
 };
 pub use commands::run_words;
 pub use law::{
-    accepted_conditions_are_true, big_runs_are_right, calls_mean_what_programs_do, probes_are_right,
-    runs_are_right, the_machine_never_sticks,
+    accepted_conditions_are_true, big_runs_are_right, calls_mean_what_programs_do, checks_are_right,
+    probes_are_right, runs_are_right, the_machine_never_sticks,
 };
