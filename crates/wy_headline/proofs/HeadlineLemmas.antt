@@ -75,6 +75,10 @@ shown_before : (a : Answer) (status : ℕ) (k : Sinks) → IsBefore a → Shown 
 shown_before a status k is (inl w) behind = is (subst IsBehind w.answer behind)
 shown_before a status k is (inr f) behind = not_5 (subst IsBehind f.answer behind)
 
+pub none_apart : (s : Setting) (source cert name arguments : List ℕ) (budget : ℕ) (a : Answer) → HasNoRun s source cert name arguments budget a → Apart a
+none_apart s source cert name arguments budget a (inl h) = run_apart s source cert name arguments budget a h
+none_apart s source cert name arguments budget a (inr h) = outside_apart s a h
+
 no_entry : (e : Entry) → Some e ≡ None → ⊥
 no_entry e is = absurd cc
 
@@ -97,10 +101,6 @@ module _ (s : Setting) (source cert name arguments : List ℕ) (budget steps : �
   refused_behind a (inr outside) shown behind = absurd (shown_before a status k (outside_before s a outside) shown behind)
 
   -- ---- what is due
-
-  none_apart : (a : Answer) → HasNoRun s source cert name arguments budget a → Apart a
-  none_apart a (inl h) = run_apart s source cert name arguments budget a h
-  none_apart a (inr h) = outside_apart s a h
 
   -- where there is no run, the status isn't 13
   abbrev IsApart : Came Launch → Type 0
@@ -131,7 +131,7 @@ module _ (s : Setting) (source cert name arguments : List ℕ) (budget steps : �
 
   with_none : (a : Answer) → HasNoRun s source cert name arguments budget a → Shown a status k → Only (not_launched a) → Headline s source cert name arguments budget steps stats status k
   with_none a none shown only =
-    let apart = none_apart a none in
+    let apart = none_apart s source cert name arguments budget a none in
     record {
     run = None;
     lines = [];

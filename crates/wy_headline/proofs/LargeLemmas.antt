@@ -1,23 +1,28 @@
 -- The command `big`, put together.
-use Rattle.std.proofs.Common.{◌≡◌, ◌⊎◌, inl, inr, ◌++◌, ◌∙◌, ℕ, List, Bool, Ok, Err, is_some, sym, ap, subst}
-use Rattle.wy_top.specs.wy_top_answers.Answers.{written as writes}
-use Rattle.wy_top.specs.wy_top_answers.Steps.{Came, EndsOutside, Follows, Setting, answer_in, ends, goes_on, stated}
+use Rattle.std.proofs.Common.{◌≡◌, ◌⊎◌, inl, inr, ◌++◌, ◌∙◌, ℕ, List, Bool, Ok, Err, is_some, refl, sym, ap, subst}
+use Rattle.wy_top.specs.wy_top_answers.Answers.{refused, written as writes}
+use Rattle.wy_top.specs.wy_top_answers.Showing.{ShowsWhole, Sinks}
+use Rattle.wy_top.specs.wy_top_answers.Steps.{Came, EndsOutside, Follows, IsTold, Setting, answer_in, due, ends, goes_on, stated}
 use Rattle.wy_top.specs.wy_top_answers.declared.answer.Answer.{Answer}
+use Rattle.wy_top.specs.wy_top_answers.report.Lines.{steps_spent}
 use Rattle.wy_top_big.specs.Source.{argument_text, entry}
 use Rattle.wy_top.specs.wy_mach_run.Running.{state_of, written}
 use Rattle.wy_top.specs.wy_code_spec.step.Step.{State, Runs, Ended, Stuck}
 use Rattle.wy_top.specs.wy_top_answers.supplied.Certificates.{no_file}
 use Rattle.wy_top.specs.Acceptance.{Acceptance, accepts_source}
-use Rattle.wy_top.specs.Large.{big_steps, finishes, finishes_in, head, large_name, runs}
+use Rattle.wy_top.specs.Large.{big_steps, finishes, finishes_in, head, large_name, makes_one, runs}
 use Rattle.wy_top.specs.Launching.{starts}
 use Rattle.wy_top.specs.Programs.{count_of}
+use Rattle.wy_top.specs.Statement.{IsAnswered}
 use Rattle.wy_top.specs.declared.launching.Launch.{Launch}
-use Rattle.wy_headline.specs.Large.{AnswersLarge, ComesToLarge, LargeRunsAreRight, large_start, line_written, ran_large, refused_large, steps_spend}
-use Rattle.wy_headline.specs.Accepted.{AcceptsBytes}
+use Rattle.wy_headline.specs.Accepted.{AcceptsBytes, IsCutShort}
+use Rattle.wy_headline.specs.Large.{AnswersLarge, ComesToLarge, IsLargeRun, LargeRunsAreRight, RanLarge, large_start, line_written, ran_large, refused_large, steps_spend}
 use Rattle.wy_headline.specs.Runs.{Entry}
+use Rattle.wy_headline.proofs.ApartLemmas.{Apart, no_0, no_10, no_8, none_is, other, outside_apart, starts_apart}
+use Rattle.wy_headline.proofs.ExactLemmas.{exactly}
 use Rattle.wy_headline.proofs.RunLemmas.{IsOf}
-use Rattle.wy_headline.proofs.StartedLemmas.{accepts_bytes, entry_of, faultless_run, is_start, right_run}
-use Rattle.wy_headline.proofs.StepLemmas.{both_came, err_is, no_value, value_is}
+use Rattle.wy_headline.proofs.StartedLemmas.{accepts_bytes, bytes_due, entry_of, faultless_run, is_start, launch_of, right_run, start_again, start_of, starts_so}
+use Rattle.wy_headline.proofs.StepLemmas.{both_came, err_is, no_value, of_steps, source_refused, value_is}
 
 -- a run that is right has no refusal for an answer
 never_refused : (e : Entry) (functions conditions steps : ℕ) (l : Launch) (st : State) (a : Answer) → IsOf e steps st → finishes_in functions conditions l st stated (Err a) → ⊥
@@ -68,15 +73,83 @@ module _ (s : Setting) (functions seed budget steps : ℕ) where
   large_refused a (goes_on bytes m is) = goes_on bytes m (not_accepted bytes a is)
   large_refused a (ends b m e) = ends b m (ap (λ (c : Answer). Err c) (err_is a b e))
 
+  -- ---- the run that is due
+
+  -- it comes to this answer, which tells what the program does
+  record IsDue (conditions : ℕ) (e : Entry) (l : Launch) (st : State) : Type 0 where
+    answer : Answer
+    answers : AnswersLarge e functions conditions steps answer
+    finishes_so : finishes_in functions conditions l st due (Ok answer)
+
+  finished_due : (conditions : ℕ) (e : Entry) (l : Launch) (st : State) → l.start.has_result ≡ is_some e.routine.result → IsOf e steps st → IsDue conditions e l st
+  finished_due conditions e l (Runs fr callers output) has h = record { answer = refused 8 steps_spent; answers = steps_spend output h refl; finishes_so = refl }
+  finished_due conditions e l (Ended v output) has h = record {
+    answer = writes (head functions conditions ++ written l.start.has_result output v);
+    answers = line_written v output h (ap (λ (b : Bool). writes (head functions conditions ++ written b output v)) has);
+    finishes_so = refl;
+  }
+  finished_due conditions e l Stuck has h = absurd h
+
+  pub large_due : (e : Entry) → IsLargeRun s functions seed budget e → (a : Answer) × RanLarge s functions seed budget steps a e × big_steps s functions seed budget steps due (Ok a)
+  large_due e of =
+      let x = of.acceptance in
+      let core = x.program.core in
+      let words = argument_text seed in
+      let start = start_of core e of.starts.args in
+      let started = starts_so core entry words e of.starts in
+      let l = launch_of x.lines start in
+      let run = right_run s no_file budget of.bytes x of.accepts entry words start started in
+      let sound = faultless_run s no_file budget of.bytes x of.accepts entry words start started in
+      let its = entry_of core entry words start started in
+      let end = finished_due (count_of x.program) its l (state_of start steps) refl (run.right steps) in
+      let ran : RanLarge s functions seed budget steps end.answer its = record {
+        of = record { bytes = of.bytes; made = of.made; within = of.within; acceptance = x; accepts = of.accepts; starts = is_start core entry words start started };
+        never_faults = sound.no_fault;
+        postcondition = sound.fulfils;
+        answers = end.answers;
+      } in
+      (end.answer, subst (RanLarge s functions seed budget steps end.answer) (start_again core entry words e of.starts) ran,
+      goes_on of.bytes (of.made, of.within) (goes_on x (bytes_due s large_name no_file budget of.bytes x of.accepts) (goes_on l (record { lines_are = refl; starts = started }) end.finishes_so)))
+
   by_last : (last : Came Answer) → big_steps s functions seed budget steps stated last ⊎ EndsOutside s last → ComesToLarge s functions seed budget steps (answer_in last)
   by_last (Ok a) (inl came) = large_ran a came
   by_last (Ok a) (inr outside) = absurd outside
   by_last (Err a) (inl came) = refused_large (inl (large_refused a came))
   by_last (Err a) (inr outside) = refused_large (inr outside)
 
+-- the status isn't 13
+line_apart : (e : Entry) (functions conditions steps : ℕ) (a : Answer) → AnswersLarge e functions conditions steps a → Apart a
+line_apart e functions conditions steps a (line_written v output done is) = other 0 a _ is refl no_0
+line_apart e functions conditions steps a (steps_spend output goes is) = other 8 a _ is refl no_8
+
+made_apart : (functions seed : ℕ) (a : Answer) → makes_one functions seed (Err a) → Apart a
+made_apart functions seed a h = other 10 a _ h.1 refl no_10
+
+-- a source that is made is accepted and started, or refused
+large_apart : (s : Setting) (functions seed budget : ℕ) (a : Answer) → large_start s functions seed budget stated (Err a) → Apart a
+large_apart s functions seed budget a h =
+    of_steps Apart _ _ (λ b g. made_apart functions seed b g) (λ bytes b g. of_steps Apart _ _ (λ c f. source_refused Apart none_is s large_name no_file budget bytes c f) (λ x c f. starts_apart entry (argument_text seed) x c f) b g) a h
+
+pub large_comes : (s : Setting) (functions seed budget steps : ℕ) (a : Answer) → ComesToLarge s functions seed budget steps a → Apart a
+large_comes s functions seed budget steps a (ran_large e h) = line_apart _ _ _ _ a h.answers
+large_comes s functions seed budget steps a (refused_large (inl h)) = large_apart s functions seed budget a h
+large_comes s functions seed budget steps a (refused_large (inr h)) = outside_apart s a h
+
+module _ (s : Setting) (functions seed budget steps status : ℕ) (k : Sinks) (h : IsAnswered s (big_steps s functions seed budget steps) status k) where
+  comes_so : ComesToLarge s functions seed budget steps h.answer
+  comes_so = subst (ComesToLarge s functions seed budget steps) (sym h.answers.is) (by_last s functions seed budget steps h.answers.last h.answers.gives.comes)
+
+  due_so : IsTold s → (e : Entry) → ((a : Answer) × RanLarge s functions seed budget steps a e × big_steps s functions seed budget steps due (Ok a)) → ((a : Answer) × RanLarge s functions seed budget steps a e × ShowsWhole a status k) ⊎ IsCutShort s status k
+  due_so told e d = by (exactly s status k (big_steps s functions seed budget steps) h (large_comes s functions seed budget steps h.answer comes_so) told (Ok d.0) d.2)
+    where
+      by : ShowsWhole d.0 status k ⊎ IsCutShort s status k → ((a : Answer) × RanLarge s functions seed budget steps a e × ShowsWhole a status k) ⊎ IsCutShort s status k
+      by (inl w) = inl (d.0, d.1, w)
+      by (inr short) = inr short
+
 pub large_right : LargeRunsAreRight
 large_right s functions seed budget steps status k h = record {
   answer = h.answer;
-  comes = subst (ComesToLarge s functions seed budget steps) (sym h.answers.is) (by_last s functions seed budget steps h.answers.last h.answers.gives.comes);
+  comes = comes_so s functions seed budget steps status k h;
   shown = h.shown;
+  is_due = λ told e of. due_so s functions seed budget steps status k h told e (large_due s functions seed budget steps e of);
 }

@@ -14,4 +14,5 @@ pub mod SeenLemmas
 pub mod CandidateLemmas
 pub mod ProbeLemmas
 pub mod MeansLemmas
+pub mod CompleteLemmas
 pub mod due_lemmas

@@ -75,7 +75,7 @@ same_output : (v w : Option Datum) (a b : List ℕ) → Returns v a ≡ Returns 
 same_output v w a b e = cc
 
 -- a program is done in one way
-one_end : (e : Entry) (d : Datum) (output : List ℕ) → IsDone e d output → (ticks : ℕ) (v : Option Datum) (m : Meter) → evaluate here e.core e.number e.values ticks ≡ Done v m → (d ≡ or_null v) × (output ≡ m.output)
+pub one_end : (e : Entry) (d : Datum) (output : List ℕ) → IsDone e d output → (ticks : ℕ) (v : Option Datum) (m : Meter) → evaluate here e.core e.number e.values ticks ≡ Done v m → (d ≡ or_null v) × (output ≡ m.output)
 one_end e d output g ticks v m is =
     let same = is_unique here e.core e.number e.values g.ticks ticks (Returns g.value g.meter.output) (Returns v m.output) (ap ending g.done) (ap ending is) in
     (sym g.is ∙ ap or_null (same_value g.value v g.meter.output m.output same), sym g.same ∙ same_output g.value v g.meter.output m.output same)

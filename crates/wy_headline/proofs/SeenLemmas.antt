@@ -7,13 +7,10 @@ use Rattle.wy_top.specs.wy_top_answers.Texts.{not_certified}
 use Rattle.wy_top.specs.wy_top_answers.declared.answer.Answer.{Answer}
 use Rattle.wy_core.specs.CoreTree.{Core}
 use Rattle.wy_port.specs.Taken.{with_taken}
-use Rattle.wy_top.specs.wy_top_answers.supplied.Certificates.{no_file}
 use Rattle.wy_top.specs.wy_top_answers.report.Lines.{save_failed, words_refused}
-use Rattle.wy_top_big.specs.Source.{argument_text, entry}
 use Rattle.wy_top.specs.wy_probe.Trials.{Finding, Faulted, Faultless}
 use Rattle.wy_top.specs.Acceptance.{are_closed, check_steps}
 use Rattle.wy_top.specs.wy_batch.Known.{Known}
-use Rattle.wy_top.specs.Large.{large_name, makes_one}
 use Rattle.wy_top.specs.Probing.{IsProbed, enters, found_answer, probe_steps, reads}
 use Rattle.wy_top.specs.Programs.{Program}
 use Rattle.wy_top.specs.Proofs.{IsJudged, proof_answer, proves_file}
@@ -25,13 +22,12 @@ use Rattle.wy_top.specs.declared.texts.Text.{Text}
 use Rattle.wy_top.specs.declared.texts.Text.TheVariants as kind_of
 use Rattle.wy_top_words.specs.CommandLine.{Asked, check, run, prove, conds, fmt, dis, big, probe, command_of}
 use Rattle.wy_headline.specs.Headline.{HasNoRun, Headline, IsOfRun}
-use Rattle.wy_headline.specs.Large.{AnswersLarge, ComesToLarge, large_start, line_written, ran_large, refused_large, steps_spend}
 use Rattle.wy_headline.specs.Runs.{Entry}
 use Rattle.wy_headline.specs.Seen.{IsNeverStuck, IsNotCertified, NeverSticks}
-use Rattle.wy_headline.proofs.HeadlineLemmas.{runs_right}
-use Rattle.wy_headline.proofs.LargeLemmas.{large_right}
-use Rattle.wy_headline.proofs.ApartLemmas.{Apart, answered_apart, check_bad, check_good, faulted_apart, no_0, no_1, no_10, no_12, no_2, no_5, no_7, no_8, no_9, none_is, other, others, outside_apart, run_apart, shown_apart, starts_apart, value_apart}
-use Rattle.wy_headline.proofs.StepLemmas.{alone_refused, loaded_refused, no_value, of_steps, owes_refused, source_refused, value_is}
+use Rattle.wy_headline.proofs.HeadlineLemmas.{none_apart, runs_right}
+use Rattle.wy_headline.proofs.LargeLemmas.{large_comes, large_right}
+use Rattle.wy_headline.proofs.ApartLemmas.{Apart, answered_apart, check_bad, check_good, faulted_apart, no_0, no_1, no_12, no_2, no_5, no_7, no_8, no_9, none_is, other, others, outside_apart, shown_apart, value_apart}
+use Rattle.wy_headline.proofs.StepLemmas.{alone_refused, loaded_refused, no_value, of_steps, owes_refused, value_is}
 
 -- ---- what is found and not certified
 
@@ -79,35 +75,12 @@ ran_apart status (inr (inr (inl is))) = others 5 status is no_5
 ran_apart status (inr (inr (inr is))) = others 9 status is no_9
 
 module _ (s : Setting) (source cert name arguments : List ℕ) (budget steps : ℕ) (stats : Bool) (status : ℕ) (k : Sinks) where
-  none_apart : (a : Answer) → HasNoRun s source cert name arguments budget a → Apart a
-  none_apart a (inl h) = run_apart s source cert name arguments budget a h
-  none_apart a (inr h) = outside_apart s a h
-
   by_run : (run : Option Entry) → IfSome run (λ e. IsOfRun status) → (run ≡ None → (a : Answer) × HasNoRun s source cert name arguments budget a × Shown a status k) → status ≢ 13
   by_run (Some e) is refused = ran_apart status is
-  by_run None is refused = let h = refused refl in shown_apart h.0 status k (none_apart h.0 h.1) h.2
+  by_run None is refused = let h = refused refl in shown_apart h.0 status k (none_apart s source cert name arguments budget h.0 h.1) h.2
 
   run_comes : Headline s source cert name arguments budget steps stats status k → status ≢ 13
   run_comes h = by_run h.run h.status_is h.refused
-
--- ---- the command `big`
-
-line_apart : (e : Entry) (functions conditions steps : ℕ) (a : Answer) → AnswersLarge e functions conditions steps a → Apart a
-line_apart e functions conditions steps a (line_written v output done is) = other 0 a _ is refl no_0
-line_apart e functions conditions steps a (steps_spend output goes is) = other 8 a _ is refl no_8
-
-made_apart : (functions seed : ℕ) (a : Answer) → makes_one functions seed (Err a) → Apart a
-made_apart functions seed a h = other 10 a _ h.1 refl no_10
-
--- a source that is made is accepted and started, or refused
-large_apart : (s : Setting) (functions seed budget : ℕ) (a : Answer) → large_start s functions seed budget stated (Err a) → Apart a
-large_apart s functions seed budget a h =
-    of_steps Apart _ _ (λ b g. made_apart functions seed b g) (λ bytes b g. of_steps Apart _ _ (λ c f. source_refused Apart none_is s large_name no_file budget bytes c f) (λ x c f. starts_apart entry (argument_text seed) x c f) b g) a h
-
-large_comes : (s : Setting) (functions seed budget steps : ℕ) (a : Answer) → ComesToLarge s functions seed budget steps a → Apart a
-large_comes s functions seed budget steps a (ran_large l h) = line_apart _ _ _ _ a h.answers
-large_comes s functions seed budget steps a (refused_large (inl h)) = large_apart s functions seed budget a h
-large_comes s functions seed budget steps a (refused_large (inr h)) = outside_apart s a h
 
 -- ---- the command `probe`
 

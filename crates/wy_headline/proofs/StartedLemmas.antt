@@ -189,6 +189,10 @@ same_entry core other name arguments e h start st same is =
     same_parts other e.core start.entry e.number st.routine e.routine (map seen start.args) e.values (sym same ∙ sym h.of) number routine
     (ap (λ (x : Start). map seen x.args) (sym is) ∙ sym h.values)
 
+-- the start that an entry has is that of the entry
+pub start_again : (core : Core ℕ) (name arguments : List ℕ) (e : Entry) (h : IsStart core name arguments e) → entry_of core name arguments (start_of core e h.args) (starts_so core name arguments e h) ≡ e
+start_again core name arguments e h = same_parts core e.core e.number e.number e.routine e.routine (map seen h.args) e.values (sym h.of) refl refl (sym h.values)
+
 -- where the launch that is due came, its entry is the one that is started
 pub one_entry : (s : Setting) (source cert name arguments : List ℕ) (budget : ℕ) (lines : List ℕ) (e : Entry) (h : IsStarted s source cert name arguments budget lines e) (l : Launch)
     → (of : IsRunOf s source cert name arguments budget l) → IsTold s → launch_in s source cert name arguments budget lines e h ≡ l

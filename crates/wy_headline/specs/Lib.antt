@@ -7,5 +7,6 @@ pub mod Large
 pub mod Probes
 pub mod Seen
 pub mod Means
+pub mod Complete
 pub mod Sources
 pub mod due

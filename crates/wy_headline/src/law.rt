@@ -1,5 +1,6 @@
 //! What is known of the commands that run programs, and of the one that looks for faults.
 ghost use Rattle.wy_headline.specs.Accepted.{AcceptedIsTrue, ChecksAreRight};
+ghost use Rattle.wy_headline.specs.Complete.{CallsAreComplete};
 ghost use Rattle.wy_headline.specs.Headline.{RunsAreRight};
 ghost use Rattle.wy_headline.specs.Large.{LargeRunsAreRight};
 ghost use Rattle.wy_headline.specs.Means.{CallsMean};
@@ -50,4 +51,10 @@ pub fn the_machine_never_sticks()
 /// What the clause of `run_words` says by the steps of the code means all of this.
 pub fn calls_mean_what_programs_do()
     ensures mean { CallsMean }
+{}
+
+/// So is each complete: where no count of faults rose, what the words ask for is done, its status and its bytes whole, or memory ran
+/// out.
+pub fn calls_are_complete()
+    ensures complete { CallsAreComplete }
 {}
