@@ -75,9 +75,9 @@ module _ (s : Setting) (v : Saving) (status : ℕ) (k : Sinks) (none : NoneRose 
   module _ (source cert name arguments : List ℕ) (budget steps : ℕ) (stats : Bool) where
     -- the run that starts is done, where there are steps enough
     by_status : (e : Entry) (lines : List ℕ) (d : Datum) (output : List ℕ) → (status ≡ 5 → ShowsFailed e lines k) → EndsDone e d output status k ⊎ ((status ≡ 5) ⊎ (status ≡ 9)) → EndsDone e d output status k ⊎ (status ≡ 9)
-    by_status e lines d output failed (inl done) = inl done
-    by_status e lines d output failed (inr (inl five)) = let f = failed five in absurd (no_sink f.rose)
-    by_status e lines d output failed (inr (inr nine)) = inr nine
+    by_status e lines d output at_five (inl done) = inl done
+    by_status e lines d output at_five (inr (inl five)) = let f = at_five five in absurd (no_sink f.rose)
+    by_status e lines d output at_five (inr (inr nine)) = inr nine
 
     surely_so : Headline s source cert name arguments budget steps stats status k → IsTold s → (lines : List ℕ) (e : Entry) → IsStarted s source cert name arguments budget lines e → (d : Datum) (output : List ℕ) → IsDoneWithin e steps d output
         → EndsDone e d output status k ⊎ (status ≡ 9)
@@ -143,7 +143,7 @@ module _ (s : Setting) (v : Saving) (status : ℕ) (k : Sinks) (none : NoneRose 
         → ShowsWhole (line_of functions (count_of of.acceptance.program) e d output) status k ⊎ (status ≡ 9)
     large_surely h told e of d output within = by (h.is_due told e of)
       where
-        by : ((a : Answer) × RanLarge s functions seed budget steps a e × ShowsWhole a status k) ⊎ IsCutShort s status k → ShowsWhole (line_of functions (count_of of.acceptance.program) e d output) status k ⊎ (status ≡ 9)
+        by : ((a : Answer) × RanLarge s functions seed budget steps e of a × ShowsWhole a status k) ⊎ IsCutShort s status k → ShowsWhole (line_of functions (count_of of.acceptance.program) e d output) status k ⊎ (status ≡ 9)
         by (inl r) = inl (subst (λ (a : Answer). ShowsWhole a status k) (same_line e _ r.0 r.1.answers d output within) r.2)
         by (inr short) = inr (short_9 short)
 

@@ -17,7 +17,7 @@ use Rattle.wy_top.specs.Statement.{IsAnswered}
 use Rattle.wy_top.specs.declared.launching.Launch.{Launch}
 use Rattle.wy_headline.specs.Accepted.{AcceptsBytes, IsCutShort}
 use Rattle.wy_headline.specs.Large.{AnswersLarge, ComesToLarge, IsLargeRun, LargeRunsAreRight, RanLarge, large_start, line_written, ran_large, refused_large, steps_spend}
-use Rattle.wy_headline.specs.Runs.{Entry}
+use Rattle.wy_headline.specs.Runs.{Entry, MeetsPostcondition, NeverFaults}
 use Rattle.wy_headline.proofs.ApartLemmas.{Apart, no_0, no_10, no_8, none_is, other, outside_apart, starts_apart}
 use Rattle.wy_headline.proofs.ExactLemmas.{exactly}
 use Rattle.wy_headline.proofs.RunLemmas.{IsOf}
@@ -49,8 +49,8 @@ module _ (s : Setting) (functions seed budget steps : ℕ) where
       let e = entry_of core entry (argument_text seed) l.start started in
       let run = right_run s no_file budget f.value g.value accepts entry (argument_text seed) l.start started in
       let sound = faultless_run s no_file budget f.value g.value accepts entry (argument_text seed) l.start started in
-      ran_large e (record {
-        of = record { bytes = f.value; made = f.came.0; within = f.came.1; acceptance = g.value; accepts = accepts; starts = is_start core entry (argument_text seed) l.start started };
+      let of : IsLargeRun s functions seed budget e = record { bytes = f.value; made = f.came.0; within = f.came.1; acceptance = g.value; accepts = accepts; starts = is_start core entry (argument_text seed) l.start started } in
+      ran_large e of (record {
         never_faults = sound.no_fault;
         postcondition = sound.fulfils;
         answers = large_answer e functions (count_of g.value.program) steps l (state_of l.start steps) a started.has_result (run.right steps) h.then;
@@ -90,7 +90,7 @@ module _ (s : Setting) (functions seed budget steps : ℕ) where
   }
   finished_due conditions e l Stuck has h = absurd h
 
-  pub large_due : (e : Entry) → IsLargeRun s functions seed budget e → (a : Answer) × RanLarge s functions seed budget steps a e × big_steps s functions seed budget steps due (Ok a)
+  pub large_due : (e : Entry) (of : IsLargeRun s functions seed budget e) → (a : Answer) × RanLarge s functions seed budget steps e of a × big_steps s functions seed budget steps due (Ok a)
   large_due e of =
       let x = of.acceptance in
       let core = x.program.core in
@@ -101,14 +101,14 @@ module _ (s : Setting) (functions seed budget steps : ℕ) where
       let run = right_run s no_file budget of.bytes x of.accepts entry words start started in
       let sound = faultless_run s no_file budget of.bytes x of.accepts entry words start started in
       let its = entry_of core entry words start started in
+      let same = start_again core entry words e of.starts in
       let end = finished_due (count_of x.program) its l (state_of start steps) refl (run.right steps) in
-      let ran : RanLarge s functions seed budget steps end.answer its = record {
-        of = record { bytes = of.bytes; made = of.made; within = of.within; acceptance = x; accepts = of.accepts; starts = is_start core entry words start started };
-        never_faults = sound.no_fault;
-        postcondition = sound.fulfils;
-        answers = end.answers;
+      let ran : RanLarge s functions seed budget steps e of end.answer = record {
+        never_faults = subst NeverFaults same sound.no_fault;
+        postcondition = subst MeetsPostcondition same sound.fulfils;
+        answers = subst (λ (f : Entry). AnswersLarge f functions (count_of x.program) steps end.answer) same end.answers;
       } in
-      (end.answer, subst (RanLarge s functions seed budget steps end.answer) (start_again core entry words e of.starts) ran,
+      (end.answer, ran,
       goes_on of.bytes (of.made, of.within) (goes_on x (bytes_due s large_name no_file budget of.bytes x of.accepts) (goes_on l (record { lines_are = refl; starts = started }) end.finishes_so)))
 
   by_last : (last : Came Answer) → big_steps s functions seed budget steps stated last ⊎ EndsOutside s last → ComesToLarge s functions seed budget steps (answer_in last)
@@ -131,7 +131,7 @@ large_apart s functions seed budget a h =
     of_steps Apart _ _ (λ b g. made_apart functions seed b g) (λ bytes b g. of_steps Apart _ _ (λ c f. source_refused Apart none_is s large_name no_file budget bytes c f) (λ x c f. starts_apart entry (argument_text seed) x c f) b g) a h
 
 pub large_comes : (s : Setting) (functions seed budget steps : ℕ) (a : Answer) → ComesToLarge s functions seed budget steps a → Apart a
-large_comes s functions seed budget steps a (ran_large e h) = line_apart _ _ _ _ a h.answers
+large_comes s functions seed budget steps a (ran_large e of h) = line_apart _ _ _ _ a h.answers
 large_comes s functions seed budget steps a (refused_large (inl h)) = large_apart s functions seed budget a h
 large_comes s functions seed budget steps a (refused_large (inr h)) = outside_apart s a h
 
@@ -139,10 +139,10 @@ module _ (s : Setting) (functions seed budget steps status : ℕ) (k : Sinks) (h
   comes_so : ComesToLarge s functions seed budget steps h.answer
   comes_so = subst (ComesToLarge s functions seed budget steps) (sym h.answers.is) (by_last s functions seed budget steps h.answers.last h.answers.gives.comes)
 
-  due_so : IsTold s → (e : Entry) → ((a : Answer) × RanLarge s functions seed budget steps a e × big_steps s functions seed budget steps due (Ok a)) → ((a : Answer) × RanLarge s functions seed budget steps a e × ShowsWhole a status k) ⊎ IsCutShort s status k
-  due_so told e d = by (exactly s status k (big_steps s functions seed budget steps) h (large_comes s functions seed budget steps h.answer comes_so) told (Ok d.0) d.2)
+  due_so : IsTold s → (e : Entry) (of : IsLargeRun s functions seed budget e) → ((a : Answer) × RanLarge s functions seed budget steps e of a × big_steps s functions seed budget steps due (Ok a)) → ((a : Answer) × RanLarge s functions seed budget steps e of a × ShowsWhole a status k) ⊎ IsCutShort s status k
+  due_so told e of d = by (exactly s status k (big_steps s functions seed budget steps) h (large_comes s functions seed budget steps h.answer comes_so) told (Ok d.0) d.2)
     where
-      by : ShowsWhole d.0 status k ⊎ IsCutShort s status k → ((a : Answer) × RanLarge s functions seed budget steps a e × ShowsWhole a status k) ⊎ IsCutShort s status k
+      by : ShowsWhole d.0 status k ⊎ IsCutShort s status k → ((a : Answer) × RanLarge s functions seed budget steps e of a × ShowsWhole a status k) ⊎ IsCutShort s status k
       by (inl w) = inl (d.0, d.1, w)
       by (inr short) = inr short
 
@@ -151,5 +151,5 @@ large_right s functions seed budget steps status k h = record {
   answer = h.answer;
   comes = comes_so s functions seed budget steps status k h;
   shown = h.shown;
-  is_due = λ told e of. due_so s functions seed budget steps status k h told e (large_due s functions seed budget steps e of);
+  is_due = λ told e of. due_so s functions seed budget steps status k h told e of (large_due s functions seed budget steps e of);
 }

@@ -152,7 +152,7 @@ start_of core e args = record { code = code_of core; entry = e.number; args = ar
 abbrev pub launch_of : List ℕ → Start → Launch
 launch_of lines start = record { lines = lines; start = start }
 
-pub starts_so : (core : Core ℕ) (name arguments : List ℕ) (e : Entry) (h : IsStart core name arguments e) → Starts core name arguments (start_of core e h.args)
+abbrev pub starts_so : (core : Core ℕ) (name arguments : List ℕ) (e : Entry) (h : IsStart core name arguments e) → Starts core name arguments (start_of core e h.args)
 starts_so core name arguments e h = record { routine = e.routine; entry = h.named; spelled = h.spelled; values = h.proper; met = h.met; has_result = refl; code = refl }
 
 abbrev pub launch_in : (s : Setting) (source cert name arguments : List ℕ) (budget : ℕ) (lines : List ℕ) (e : Entry) → IsStarted s source cert name arguments budget lines e → Launch

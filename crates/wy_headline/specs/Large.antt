@@ -43,15 +43,14 @@ pub data AnswersLarge (e : Entry) (functions conditions steps : ℕ) (a : Answer
 abbrev pub large_start : Setting → ℕ → ℕ → ℕ → Sense → Came Launch → Type 0
 large_start s functions seed budget = and_then (makes functions seed) (λ bytes. and_then (accepts_source s large_name no_file budget bytes) (starts entry (argument_text seed)))
 
--- it ran from this entry, it never faults, its contract holds, and the answer tells what it does
-pub record RanLarge (s : Setting) (functions seed budget steps : ℕ) (a : Answer) (e : Entry) : Type 0 where
-  pub of : IsLargeRun s functions seed budget e
+-- it ran from this entry: it never faults, its contract holds, and the answer tells what it does
+pub record RanLarge (s : Setting) (functions seed budget steps : ℕ) (e : Entry) (of : IsLargeRun s functions seed budget e) (a : Answer) : Type 0 where
   pub never_faults : NeverFaults e
   pub postcondition : MeetsPostcondition e
   pub answers : AnswersLarge e functions (count_of of.acceptance.program) steps a
 
 pub data ComesToLarge (s : Setting) (functions seed budget steps : ℕ) (a : Answer) : Type 0 where
-  ran_large : (e : Entry) → RanLarge s functions seed budget steps a e → ComesToLarge s functions seed budget steps a
+  ran_large : (e : Entry) (of : IsLargeRun s functions seed budget e) → RanLarge s functions seed budget steps e of a → ComesToLarge s functions seed budget steps a
   -- a step before the run came to the answer, or it came from outside
   refused_large : large_start s functions seed budget stated (Err a) ⊎ IsOutside s a → ComesToLarge s functions seed budget steps a
 
@@ -60,7 +59,7 @@ pub record ShowsLarge (s : Setting) (functions seed budget steps : ℕ) (status 
   pub answer : Answer
   pub comes : ComesToLarge s functions seed budget steps answer
   pub shown : Shown answer status k
-  pub is_due : IsTold s → (e : Entry) → IsLargeRun s functions seed budget e → ((a : Answer) × RanLarge s functions seed budget steps a e × ShowsWhole a status k) ⊎ IsCutShort s status k
+  pub is_due : IsTold s → (e : Entry) (of : IsLargeRun s functions seed budget e) → ((a : Answer) × RanLarge s functions seed budget steps e of a × ShowsWhole a status k) ⊎ IsCutShort s status k
 
 abbrev pub LargeRunsAreRight : Type 0
 LargeRunsAreRight = (s : Setting) (functions seed budget steps : ℕ) (status : ℕ) (k : Sinks) → IsAnswered s (big_steps s functions seed budget steps) status k → ShowsLarge s functions seed budget steps status k

@@ -5,10 +5,11 @@
 //! that is said of whatever code is that of the core, as `generate` of wy_gen promises of its answer.
 //!
 //! `run_words` of wy_top says what a run writes by the steps of the code. Here the laws of soundness and of code are put to
-//! that: `specs/Headline` is the sentence on the command `run`, part by part, `specs/Runs` what a run does and what the sinks take of
-//! it, `specs/Accepted` which program is accepted, `specs/Started` which is started, `specs/Large` what the command `big` comes to, `specs/Probes` what the
-//! one shows that looks for faults, `specs/Seen` that no call has status 13 but one of `prove`, for a condition that was found and
-//! not certified, and `specs/Means` all of it of a call.
+//! that: `specs/Headline` is the sentence on the command `run`, part by part, `specs/Accepted` which program is accepted, and
+//! `specs/Started` which is started, `specs/Runs` what a run does and what the sinks take of it, `specs/Large` what the
+//! command `big` comes to, `specs/Probes` what the one shows that looks for faults, `specs/Seen` that no call has status 13
+//! but one of `prove`, for a condition that was found and not certified, `specs/Means` all of it of a call, and
+//! `specs/Complete` what a call comes to where nothing outside fails.
 #![tactic(auto)]
 
 mod accepted_runs;
