@@ -17,7 +17,7 @@ use Rattle.wy_top.specs.wy_top_answers.Steps.{Came, EndsOutside, IsOutside, IsTo
 use Rattle.wy_top.specs.wy_top_answers.Texts.{load_status, load_text}
 use Rattle.wy_top.specs.wy_top_answers.declared.answer.Answer.{Answer}
 use Rattle.wy_top.specs.Exact.{IsElse}
-use Rattle.wy_top.specs.Probing.{Checked, checked, enters, found_answer, probe_steps, probes, probes_source, reads}
+use Rattle.wy_top.specs.wy_top_probe.Probing.{Checked, checked, enters, found_answer, probe_steps, probes, probes_source, reads}
 use Rattle.wy_top.specs.Statement.{IsAnswered}
 use Rattle.wy_top.proofs.ExactLemmas.{answered}
 use Rattle.wy_top.proofs.wy_link_load_proofs.AloneLemmas.{takes_nothing}

@@ -11,7 +11,7 @@ use Rattle.wy_top.specs.wy_top_answers.report.Lines.{save_failed, words_refused}
 use Rattle.wy_top.specs.wy_probe.Trials.{Finding, Faulted, Faultless}
 use Rattle.wy_top.specs.Acceptance.{are_closed, check_steps}
 use Rattle.wy_top.specs.wy_batch.Known.{Known}
-use Rattle.wy_top.specs.Probing.{IsProbed, enters, found_answer, probe_steps, reads}
+use Rattle.wy_top.specs.wy_top_probe.Probing.{IsProbed, enters, found_answer, probe_steps, reads}
 use Rattle.wy_top.specs.Programs.{Program}
 use Rattle.wy_top.specs.Proofs.{IsJudged, proof_answer, proves_file}
 use Rattle.wy_top.specs.Saves.{Saves, Saving}

@@ -10,7 +10,7 @@ use Rattle.wy_top.specs.wy_top_answers.report.Lines.{words_refused}
 use Rattle.wy_top.specs.Acceptance.{check_steps}
 use Rattle.wy_top.specs.Large.{big_steps}
 use Rattle.wy_top.specs.Launching.{run_steps}
-use Rattle.wy_top.specs.Probing.{probe_steps}
+use Rattle.wy_top.specs.wy_top_probe.Probing.{probe_steps}
 use Rattle.wy_top.specs.Programs.{count_of}
 use Rattle.wy_top.specs.Proofs.{Proves, proves_file}
 use Rattle.wy_top.specs.Runs.{Ran}

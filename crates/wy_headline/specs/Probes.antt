@@ -14,7 +14,7 @@ use Rattle.wy_top.specs.wy_top_answers.declared.answer.Answer.{Answer}
 use Rattle.wy_top.specs.wy_top_source.Sources.{IsProgram}
 use Rattle.wy_top.specs.Acceptance.{Acceptance}
 use Rattle.wy_top.specs.Exact.{IsElse}
-use Rattle.wy_top.specs.Probing.{found_answer, probe_steps}
+use Rattle.wy_top.specs.wy_top_probe.Probing.{found_answer, probe_steps}
 use Rattle.wy_top.specs.Statement.{IsAnswered}
 use Rattle.wy_headline.specs.Accepted.{AcceptsBytes}
 
