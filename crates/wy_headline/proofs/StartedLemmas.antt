@@ -1,5 +1,5 @@
 -- Which program is started: read off the steps of a command, and the other way round; and that its run is right.
-use Rattle.std.proofs.Common.{◌≡◌, ◌≢◌, ◌∙◌, ℕ, zero, suc, List, [], ◌∷◌, map, true, Option, Some, None, Ok, is_some, refl, sym, ap, subst}
+use Rattle.std.proofs.Common.{◌≡◌, ◌≢◌, ◌∙◌, ℕ, List, [], ◌∷◌, map, true, Option, Some, None, Ok, is_some, refl, sym, ap, subst}
 use Rattle.std.specs.Prelude.{slice_get}
 use Rattle.wy_port.specs.Told.{Told, MayBe}
 use Rattle.wy_port.specs.Told.Told.{Unknown, Lacking, Holding}
@@ -13,7 +13,6 @@ use Rattle.wy_top.specs.wy_mach.Running.{LacksNone}
 use Rattle.wy_top.specs.wy_mach_run.Running.{state_of}
 use Rattle.wy_top.specs.wy_mach_run.Starting.{Starts}
 use Rattle.wy_top.specs.wy_mach_run.declared.parts.Start.{Start}
-use Rattle.wy_sound.specs.wy_sem.Evaluation.{Declared, callee}
 use Rattle.wy_sound.specs.wy_vc_laws.shown.ReadSorted.{AreSortedCertificates}
 use Rattle.wy_sound.proofs.wy_vc_laws_proofs.shown_lemmas.ReadLemmas.{reads_sorted}
 use Rattle.wy_sound.proofs.wy_vc_laws_proofs.shown_lemmas.TruthLemmas.{premises_met}
@@ -32,6 +31,7 @@ use Rattle.wy_top.specs.wy_link_load.Loading.{loads_behind, loads_file, loads_im
 use Rattle.wy_top.specs.wy_link_load.declared.file.SourceFile.{SourceFile}
 use Rattle.wy_top.specs.wy_link_load.declared.loading.Sources.{Sources}
 use Rattle.wy_top.proofs.wy_link_load_proofs.AloneLemmas.{takes_nothing}
+use Rattle.wy_top.proofs.wy_probe_proofs.RoutineLemmas.{callee_at}
 use Rattle.wy_top.proofs.wy_top_source_proofs.OneLemmas.{one_core}
 use Rattle.wy_top.specs.wy_top_answers.supplied.Certificates.{certificates, from_file, without}
 use Rattle.wy_top.specs.wy_top_source.Sources.{IsProgram}
@@ -202,14 +202,6 @@ one_entry s source cert name arguments budget lines e h l of told is =
     (same_core s source cert budget h.acceptance of.acceptance told h.file of.file) (ap (λ (x : Launch). x.start) is)
 
 -- ---- the run
-
-no_some : {X : Type 0} (x : X) → (let n : Option X = None in n ≡ Some x) → ⊥
-no_some x e = absurd cc
-
-callee_at : (rs : List (Routine ℕ)) (f : ℕ) (r : Routine ℕ) → slice_get rs f ≡ Some r → callee rs f ≡ Declared r
-callee_at [] f r e = absurd (no_some r e)
-callee_at (q ∷ rs) zero r e = ap (λ (x : Routine ℕ). Declared x) (some_is q r e)
-callee_at (q ∷ rs) (suc f) r e = callee_at rs f r e
 
 pub right_run : (s : Setting) (cert : List ℕ) (budget : ℕ) (bytes : List ℕ) (a : Acceptance) → AcceptsBytes s cert budget bytes a → (name arguments : List ℕ) (start : Start) (st : Starts a.program.core name arguments start)
     → RunsRightly here a.program.core start.entry st.routine (map seen start.args) (state_of start)
