@@ -131,24 +131,24 @@ module _ (s : Setting) (source cert name arguments : List ℕ) (budget steps : �
 
   with_none : (a : Answer) → HasNoRun s source cert name arguments budget a → Shown a status k → Only (not_launched a) → Headline s source cert name arguments budget steps stats status k
   with_none a none shown only =
-    let apart = none_apart s source cert name arguments budget a none in
-    record {
-    run = None;
-    lines = [];
-    accepted = refused_behind a none shown;
-    accepted_where = accepted_due (Err a) apart shown only;
-    starts_only = tt;
-    starts_where = λ told its e h. inr (refused_due a apart shown (launch_in s source cert name arguments budget its e h) (only told _ (run_due s source cert name arguments budget its e h)));
-    refused = λ is. (a, none, shown);
-    never_faults = tt;
-    result = tt;
-    postcondition = tt;
-    spent = tt;
-    enough = tt;
-    status_is = tt;
-    sink_failed = tt;
-    no_memory = tt;
-  }
+      let apart = none_apart s source cert name arguments budget a none in
+      record {
+        run = None;
+        lines = [];
+        accepted = refused_behind a none shown;
+        accepted_where = accepted_due (Err a) apart shown only;
+        starts_only = tt;
+        starts_where = λ told its e h. inr (refused_due a apart shown (launch_in s source cert name arguments budget its e h) (only told _ (run_due s source cert name arguments budget its e h)));
+        refused = λ is. (a, none, shown);
+        never_faults = tt;
+        result = tt;
+        postcondition = tt;
+        spent = tt;
+        enough = tt;
+        status_is = tt;
+        sink_failed = tt;
+        no_memory = tt;
+      }
 
   -- the run that is due is the one that came
   same_run : (l : Launch) (of : IsRunOf s source cert name arguments budget l) → IsTold s → (its : List ℕ) (e : Entry) (h : IsStarted s source cert name arguments budget its e)

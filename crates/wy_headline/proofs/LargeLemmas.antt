@@ -107,9 +107,11 @@ module _ (s : Setting) (functions seed budget steps : ℕ) where
         never_faults = subst NeverFaults same sound.no_fault;
         postcondition = subst MeetsPostcondition same sound.fulfils;
         answers = subst (λ (f : Entry). AnswersLarge f functions (count_of x.program) steps end.answer) same end.answers;
-      } in
-      (end.answer, ran,
-      goes_on of.bytes (of.made, of.within) (goes_on x (bytes_due s large_name no_file budget of.bytes x of.accepts) (goes_on l (record { lines_are = refl; starts = started }) end.finishes_so)))
+      } in (
+        end.answer,
+        ran,
+        goes_on of.bytes (of.made, of.within) (goes_on x (bytes_due s large_name no_file budget of.bytes x of.accepts) (goes_on l (record { lines_are = refl; starts = started }) end.finishes_so)),
+      )
 
   by_last : (last : Came Answer) → big_steps s functions seed budget steps stated last ⊎ EndsOutside s last → ComesToLarge s functions seed budget steps (answer_in last)
   by_last (Ok a) (inl came) = large_ran a came

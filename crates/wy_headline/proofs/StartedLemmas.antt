@@ -88,7 +88,7 @@ alone_due s name bytes h =
     let all : Sources = record { imported = []; source = file } in
     let read : reads s name due (Ok file) = goes_on bytes h.loads (record { named = refl; holds = refl; spelled = h.spelled }) in
     let none : loads_imports (loads_file 63 s (name ∷ [])) 63 (name ∷ []) file [] h.program.imports [] due (Ok []) =
-        subst (λ (imports : List (List ℕ × ℕ)). loads_imports (loads_file 63 s (name ∷ [])) 63 (name ∷ []) file [] imports [] due (Ok [])) (sym h.nothing) refl in
+    subst (λ (imports : List (List ℕ × ℕ)). loads_imports (loads_file 63 s (name ∷ [])) 63 (name ∷ []) file [] imports [] due (Ok [])) (sym h.nothing) refl in
     let behind : loads_behind s file due (Ok all) = goes_on [] none refl in
     let taken : takes_with file h.program.imports due (Ok bytes) = subst (λ (imports : List (List ℕ × ℕ)). takes_with file imports due (Ok bytes)) (sym h.nothing) refl in
     goes_on all (goes_on file read behind) taken
@@ -185,7 +185,7 @@ same_entry core other name arguments e h start st same is =
     let there : routine_at other start.entry ≡ Some st.routine = st.entry.there in
     let here_too : routine_at core e.number ≡ Some e.routine = h.named.there in
     let routine : st.routine ≡ e.routine =
-        some_is st.routine e.routine (sym there ∙ (ap (λ (x : Core ℕ). routine_at x start.entry) (sym same) ∙ (ap (routine_at core) number ∙ here_too))) in
+    some_is st.routine e.routine (sym there ∙ (ap (λ (x : Core ℕ). routine_at x start.entry) (sym same) ∙ (ap (routine_at core) number ∙ here_too))) in
     same_parts other e.core start.entry e.number st.routine e.routine (map seen start.args) e.values (sym same ∙ sym h.of) number routine
     (ap (λ (x : Start). map seen x.args) (sym is) ∙ sym h.values)
 
