@@ -55,7 +55,7 @@ pub fn calls_mean_what_programs_do()
     ensures mean { CallsMean }
 {}
 
-/// So is each complete: where no count of faults rose, what the words ask for is done, its status and its bytes
+/// And each such call is complete: where no count of faults rose, what the words ask for is done, its status and its bytes
 /// whole, or memory ran out.
 pub fn calls_are_complete()
     ensures complete { CallsAreComplete }
