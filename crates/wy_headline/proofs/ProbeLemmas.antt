@@ -7,7 +7,7 @@ use Rattle.wy_port.specs.declared.files.LoadFault.TheVariants as load
 use Rattle.wy_sound.specs.wy_sem.Evaluation.{evaluate}
 use Rattle.wy_top.specs.wy_eval_exprs.Settings.{here}
 use Rattle.wy_top.specs.wy_gen_laws.programs.Programs.{NoFault}
-use Rattle.wy_top.specs.wy_link_load.Alone.{loads_alone}
+use Rattle.wy_top.specs.wy_link_load.Alone.{IsAlone, loads_alone}
 use Rattle.wy_top.specs.wy_probe.Trials.{Faulted, Faultless, Finding, FindsFirst, tuples_of}
 use Rattle.wy_top.specs.wy_probe.Comes.{probe_of}
 use Rattle.wy_top.specs.wy_top_answers.Answers.{refused}
@@ -16,19 +16,21 @@ use Rattle.wy_top.specs.wy_top_answers.Showing.{Shown, ShowsWhole, Sinks}
 use Rattle.wy_top.specs.wy_top_answers.Steps.{Came, EndsOutside, IsOutside, IsTold, Setting, answer_in, due, failed, goes_on, memory, stated}
 use Rattle.wy_top.specs.wy_top_answers.Texts.{load_status, load_text}
 use Rattle.wy_top.specs.wy_top_answers.declared.answer.Answer.{Answer}
-use Rattle.wy_top.specs.Exact.{IsElse}
 use Rattle.wy_top.specs.wy_top_probe.Probing.{Checked, checked, enters, found_answer, probe_steps, probes, probes_source, reads}
 use Rattle.wy_top.specs.Statement.{IsAnswered}
-use Rattle.wy_top.proofs.ExactLemmas.{answered}
 use Rattle.wy_top.proofs.wy_link_load_proofs.AloneLemmas.{takes_nothing}
 use Rattle.wy_top.proofs.wy_probe_proofs.RoutineLemmas.{callee_at}
 use Rattle.wy_top.proofs.wy_top_source_proofs.OneLemmas.{one_core}
+use Rattle.wy_headline.specs.Accepted.{IsCutShort}
 use Rattle.wy_headline.specs.Probes.{Faults, FaultsIn, IsNeverAccepted, MeansProbe, ProbesAreRight, answer_of}
 use Rattle.wy_headline.specs.Sources.{IsShown}
+use Rattle.wy_headline.proofs.ApartLemmas.{Apart, of_last}
 use Rattle.wy_headline.proofs.CandidateLemmas.{tuple_bounded}
+use Rattle.wy_headline.proofs.ExactLemmas.{exactly}
 use Rattle.wy_headline.proofs.FaultLemmas.{faultless}
+use Rattle.wy_headline.proofs.SeenLemmas.{probe_bad, probe_good}
 use Rattle.wy_headline.proofs.SourceLemmas.{source_shown}
-use Rattle.wy_headline.proofs.StartedLemmas.{accepted_hold}
+use Rattle.wy_headline.proofs.StartedLemmas.{accepted_hold, alone_due}
 use Rattle.wy_headline.proofs.StepLemmas.{Refuses, alone_refused, both_came, no_value, of_steps, value_is}
 
 -- ---- what faults is never accepted
@@ -142,11 +144,11 @@ module _ (s : Setting) (source name : List ℕ) (tuples ticks : ℕ) where
       let i = both_came _ _ a g.then in
       by_finding f.value a f.came g.value g.came i.value i.came i.then.finding i.then.finds (value_is a _ i.then.answer) twelve
 
-  of_last : (last : Came Answer) → probe_steps s source name tuples ticks stated last ⊎ EndsOutside s last → (answer_in last).status ≡ 12 → Came12 (answer_in last)
-  of_last (Ok a) (inl h) twelve = answered_12 a h twelve
-  of_last (Ok a) (inr h) twelve = absurd h
-  of_last (Err a) (inl h) twelve = absurd (refused_other a h twelve)
-  of_last (Err a) (inr h) twelve = absurd (outside_other s a h twelve)
+  by_last : (last : Came Answer) → probe_steps s source name tuples ticks stated last ⊎ EndsOutside s last → (answer_in last).status ≡ 12 → Came12 (answer_in last)
+  by_last (Ok a) (inl h) twelve = answered_12 a h twelve
+  by_last (Ok a) (inr h) twelve = absurd h
+  by_last (Err a) (inl h) twelve = absurd (refused_other a h twelve)
+  by_last (Err a) (inr h) twelve = absurd (outside_other s a h twelve)
 
   shown_whole : (a : Answer) (status : ℕ) (k : Sinks) → Shown a status k → status ≡ 12 → ShowsWhole a status k
   shown_whole a status k (inl w) twelve = w
@@ -157,7 +159,7 @@ module _ (s : Setting) (source name : List ℕ) (tuples ticks : ℕ) where
     shows_fault twelve =
         let w = shown_whole h.answer status k h.shown twelve in
         let is : h.answer.status ≡ 12 = sym w.answer ∙ twelve in
-        let c = subst Came12 (sym h.answers.is) (of_last h.answers.last h.answers.gives.comes (subst (λ (a : Answer). a.status ≡ 12) h.answers.is is)) in
+        let c = subst Came12 (sym h.answers.is) (by_last h.answers.last h.answers.gives.comes (subst (λ (a : Answer). a.status ≡ 12) h.answers.is is)) in
         record {
           bytes = c.bytes;
           alone = takes_nothing s source c.bytes c.alone;
@@ -166,13 +168,15 @@ module _ (s : Setting) (source name : List ℕ) (tuples ticks : ℕ) where
           never = never_accepted c.bytes name tuples ticks c.faults;
         }
 
-    shows_due : IsTold s → (bytes : List ℕ) → loads_alone s source due (Ok bytes) → (f : Faults bytes name tuples ticks) → ShowsWhole (answer_of bytes name tuples ticks f) status k ⊎ IsElse status
+    shows_due : IsTold s → (bytes : List ℕ) → IsAlone s source bytes → (f : Faults bytes name tuples ticks) → ShowsWhole (answer_of bytes name tuples ticks f) status k ⊎ IsCutShort s status k
     shows_due told bytes alone f =
+        let steps = probe_steps s source name tuples ticks in
+        let apart = subst Apart (sym h.answers.is) (of_last s steps (probe_good s source name tuples ticks) (probe_bad s source name tuples ticks) h.answers.last h.answers.gives.comes) in
         let answer = answer_of bytes name tuples ticks f in
         let finding = Faulted f.number f.values f.kind f.at in
         let found : probes bytes f.core tuples ticks f.entry due (Ok answer) = record { finding = finding; finds = f.finds; answer = refl } in
         let entered : probes_source source name tuples ticks bytes due (Ok answer) = goes_on (checked f.core f.flow) f.program (goes_on f.entry (f.routine, f.named) found) in
-        answered s (probe_steps s source name tuples ticks) status k h told (Ok answer) (goes_on bytes alone entered)
+        exactly s status k steps h apart told (Ok answer) (goes_on bytes (alone_due s source bytes alone) entered)
 
 pub probes_right : ProbesAreRight
 probes_right s source name tuples ticks status k h = record { faults = shows_fault s source name tuples ticks status k h; is_due = shows_due s source name tuples ticks status k h }

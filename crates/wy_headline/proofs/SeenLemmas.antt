@@ -97,11 +97,11 @@ enters_apart core name a h = faulted_apart _ _ (λ f. no_7) a h
 reads_apart : (name bytes : List ℕ) (a : Answer) → reads name bytes stated (Err a) → Apart a
 reads_apart name bytes a h = faulted_apart _ _ (λ f. no_1) a h
 
-probe_good : (s : Setting) (source name : List ℕ) (tuples ticks : ℕ) (a : Answer) → probe_steps s source name tuples ticks stated (Ok a) → Apart a
+pub probe_good : (s : Setting) (source name : List ℕ) (tuples ticks : ℕ) (a : Answer) → probe_steps s source name tuples ticks stated (Ok a) → Apart a
 probe_good s source name tuples ticks a h =
     value_apart _ _ (λ bytes b g. value_apart _ _ (λ p c f. value_apart _ _ (λ entry d e. probed_apart bytes p.core tuples ticks entry d e) c f) b g) a h
 
-probe_bad : (s : Setting) (source name : List ℕ) (tuples ticks : ℕ) (a : Answer) → probe_steps s source name tuples ticks stated (Err a) → Apart a
+pub probe_bad : (s : Setting) (source name : List ℕ) (tuples ticks : ℕ) (a : Answer) → probe_steps s source name tuples ticks stated (Err a) → Apart a
 probe_bad s source name tuples ticks a h =
     of_steps Apart _ _ (λ b g. alone_refused Apart none_is s source b g) (λ bytes b g. of_steps Apart _ _ (λ c f. reads_apart source bytes c f)
     (λ p c f. of_steps Apart _ _ (λ d e. enters_apart p.core name d e) (λ entry d e. absurd (no_value _ d e.answer)) c f) b g) a h

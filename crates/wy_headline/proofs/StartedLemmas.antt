@@ -82,7 +82,7 @@ accepts_in s source cert budget a h = let f = both_came _ _ a h in record { byte
 
 -- ---- acceptance that is due
 
-alone_due : (s : Setting) (name bytes : List ℕ) → IsAlone s name bytes → loads_alone s name due (Ok bytes)
+pub alone_due : (s : Setting) (name bytes : List ℕ) → IsAlone s name bytes → loads_alone s name due (Ok bytes)
 alone_due s name bytes h =
     let file : SourceFile = record { name = name; bytes = bytes; program = h.program } in
     let all : Sources = record { imported = []; source = file } in
