@@ -1,19 +1,15 @@
 -- Which answers have another status than 13.
 use Rattle.std.proofs.Common.{◌≡◌, ◌≢◌, ◌⊎◌, inl, inr, ℕ, List, Ok, Err, refl, sym, ◌∙◌, ap, subst, arith}
-use Rattle.wy_port.specs.declared.files.LoadFault.{LoadFault}
-use Rattle.wy_port.specs.declared.files.LoadFault.TheVariants as load
-use Rattle.wy_top.specs.wy_top_answers.Answers.{refused}
 use Rattle.wy_top.specs.wy_top_answers.Calls.{Faults, IsFaulted}
 use Rattle.wy_top.specs.wy_top_answers.Showing.{Shown, Sinks}
-use Rattle.wy_top.specs.wy_top_answers.Steps.{Came, EndsOutside, Follows, goes_on, ends, IsOutside, Sense, Setting, answer_in, failed, memory, stated}
-use Rattle.wy_top.specs.wy_top_answers.Texts.{load_status, load_text}
+use Rattle.wy_top.specs.wy_top_answers.Steps.{Came, EndsOutside, Follows, goes_on, ends, IsOutside, Sense, Setting, answer_in, stated}
 use Rattle.wy_top.specs.wy_top_answers.declared.answer.Answer.{Answer}
 use Rattle.wy_top.specs.wy_mach_run.declared.fault.StartFault.{StartFault}
 use Rattle.wy_top.specs.wy_mach_run.declared.fault.StartFault.TheVariants as start
 use Rattle.wy_top.specs.Acceptance.{Acceptance, check_steps}
 use Rattle.wy_top.specs.Launching.{fault_status, run_steps, starts}
 use Rattle.wy_top.specs.Statement.{IsAnswered}
-use Rattle.wy_headline.proofs.StepLemmas.{Refuses, file_refused, no_err, no_value, of_steps, value_is}
+use Rattle.wy_headline.proofs.StepLemmas.{Refuses, by_status, file_refused, no_err, no_value, of_steps, outside_by, value_is}
 
 -- ---- answers
 
@@ -79,18 +75,11 @@ others n status is apart e = absurd (apart (sym is ∙ e))
 -- ---- steps
 
 pub outside_apart : (s : Setting) (a : Answer) → IsOutside s a → Apart a
-outside_apart s a (memory e) = other 9 a _ e refl no_9
-outside_apart s a (failed name e rose) = other 4 a _ e refl no_4
+outside_apart s a o = outside_by (λ (n : ℕ). n ≢ 13) no_4 no_9 s a o
 
 -- why a source isn't accepted
 pub none_is : Refuses Apart
-none_is = record { not_loaded = by; refuses = λ lines. no_1; no_certificates = λ lines. no_6 }
-  where
-    by : (f : LoadFault) (name : List ℕ) → Apart (refused (load_status f) (load_text name f))
-    by load.Absent name = no_3
-    by load.TooLong name = no_10
-    by load.Failed name = no_4
-    by load.NoMemory name = no_9
+none_is = by_status (λ (n : ℕ). n ≢ 13) no_1 no_3 no_4 no_6 no_9 no_10
 
 -- a fault of another status
 pub faulted_apart : {F : Type 0} (faults : Faults F) (there : F → Type 0) → ((f : F) → faults.status f ≢ 13) → (a : Answer) → IsFaulted faults there a → Apart a

@@ -1,11 +1,7 @@
 -- The command `check`, put together.
-use Rattle.std.proofs.Common.{◌≡◌, ◌≢◌, ◌⊎◌, inl, inr, ◌∙◌, ℕ, List, Ok, Err, refl, sym, ap, subst, arith}
-use Rattle.wy_port.specs.declared.files.LoadFault.{LoadFault}
-use Rattle.wy_port.specs.declared.files.LoadFault.TheVariants as load
-use Rattle.wy_top.specs.wy_top_answers.Answers.{refused}
+use Rattle.std.proofs.Common.{◌≡◌, ◌≢◌, ◌⊎◌, inl, inr, ◌∙◌, ℕ, List, Ok, Err, refl, sym, subst, arith}
 use Rattle.wy_top.specs.wy_top_answers.Showing.{Shown, ShowsWhole, Sinks}
-use Rattle.wy_top.specs.wy_top_answers.Steps.{Came, EndsOutside, IsOutside, Setting, answer_in, failed, goes_on, memory, stated}
-use Rattle.wy_top.specs.wy_top_answers.Texts.{load_status, load_text}
+use Rattle.wy_top.specs.wy_top_answers.Steps.{Came, EndsOutside, Setting, answer_in, goes_on, stated}
 use Rattle.wy_top.specs.wy_top_answers.declared.answer.Answer.{Answer}
 use Rattle.wy_top.specs.Acceptance.{Acceptance, check_steps, checked_answer}
 use Rattle.wy_top.specs.Statement.{IsAnswered}
@@ -13,42 +9,20 @@ use Rattle.wy_headline.specs.Accepted.{AcceptsFile, ChecksAreRight}
 use Rattle.wy_headline.proofs.ApartLemmas.{Apart, check_bad, check_good, of_last}
 use Rattle.wy_headline.proofs.ExactLemmas.{exactly}
 use Rattle.wy_headline.proofs.StartedLemmas.{accepts_in, file_due}
-use Rattle.wy_headline.proofs.StepLemmas.{Refuses, both_came, file_refused, no_value, of_steps, value_is}
+use Rattle.wy_headline.proofs.StepLemmas.{Refuses, both_came, by_status, file_refused, no_value, of_steps, outside_by, value_is}
 
 -- an answer with which nothing is accepted
 abbrev IsUndone : Answer → Type 0
 IsUndone a = a.status ≢ 0
 
-no_1 : ◌≢◌ {A = ℕ} 1 0
-no_1 e = omega (arith, e)
+not_4 : ◌≢◌ {A = ℕ} 4 0
+not_4 e = omega (arith, e)
 
-no_3 : ◌≢◌ {A = ℕ} 3 0
-no_3 e = omega (arith, e)
-
-no_4 : ◌≢◌ {A = ℕ} 4 0
-no_4 e = omega (arith, e)
-
-no_6 : ◌≢◌ {A = ℕ} 6 0
-no_6 e = omega (arith, e)
-
-no_9 : ◌≢◌ {A = ℕ} 9 0
-no_9 e = omega (arith, e)
-
-no_10 : ◌≢◌ {A = ℕ} 10 0
-no_10 e = omega (arith, e)
+not_9 : ◌≢◌ {A = ℕ} 9 0
+not_9 e = omega (arith, e)
 
 undone : Refuses IsUndone
-undone = record { not_loaded = by; refuses = λ lines. no_1; no_certificates = λ lines. no_6 }
-  where
-    by : (f : LoadFault) (name : List ℕ) → IsUndone (refused (load_status f) (load_text name f))
-    by load.Absent name = no_3
-    by load.TooLong name = no_10
-    by load.Failed name = no_4
-    by load.NoMemory name = no_9
-
-outside_undone : (s : Setting) (a : Answer) → IsOutside s a → IsUndone a
-outside_undone s a (memory e) = subst IsUndone (sym e) no_9
-outside_undone s a (failed name e rose) = subst IsUndone (sym e) no_4
+undone = by_status (λ (n : ℕ). n ≢ 0) (λ e. omega (arith, e)) (λ e. omega (arith, e)) not_4 (λ e. omega (arith, e)) not_9 (λ e. omega (arith, e))
 
 module _ (s : Setting) (source cert : List ℕ) (budget status : ℕ) (k : Sinks) where
   -- the program is accepted, and this is the answer
@@ -65,7 +39,7 @@ module _ (s : Setting) (source cert : List ℕ) (budget status : ℕ) (k : Sinks
   by_last (Ok b) (inl h) zero = told_so b h
   by_last (Ok b) (inr h) zero = absurd h
   by_last (Err b) (inl h) zero = absurd (refused_undone b h zero)
-  by_last (Err b) (inr h) zero = absurd (outside_undone s b h zero)
+  by_last (Err b) (inr h) zero = absurd (outside_by (λ (n : ℕ). n ≢ 0) not_4 not_9 s b h zero)
 
   shown_whole : (a : Answer) → Shown a status k → status ≡ 0 → ShowsWhole a status k
   shown_whole a (inl w) zero = w

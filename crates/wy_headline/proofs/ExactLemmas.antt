@@ -1,5 +1,5 @@
 -- What is due is what comes, unless the call is cut short.
-use Rattle.std.proofs.Common.{◌≡◌, ◌≢◌, ◌⊎◌, inl, inr, ◌∙◌, ℕ, Ok, Err, sym, ap, subst}
+use Rattle.std.proofs.Common.{◌≡◌, ◌⊎◌, inl, inr, ◌∙◌, ℕ, Ok, Err, sym, ap, subst}
 use Rattle.wy_top.specs.wy_top_answers.Showing.{Shown, ShowsWhole, Sinks}
 use Rattle.wy_top.specs.wy_top_answers.Steps.{Came, EndsFree, IsFree, IsTold, Sense, Setting, answer_in, due, failed, from_outside, memory, uncertified}
 use Rattle.wy_top.specs.wy_top_answers.declared.answer.Answer.{Answer}

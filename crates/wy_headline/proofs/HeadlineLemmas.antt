@@ -1,15 +1,11 @@
 -- The headline, put together.
-use Rattle.std.proofs.Common.{◌≡◌, ◌≢◌, ◌⊎◌, inl, inr, ◌∙◌, ℕ, List, [], Bool, Option, Some, None, Ok, Err, sym, ap, subst, arith}
+use Rattle.std.proofs.Common.{◌≡◌, ◌≢◌, ◌⊎◌, ◌<◌, inl, inr, ℕ, List, [], Bool, Some, None, Ok, Err, sym, ap, subst, arith}
 use Rattle.std.specs.Prelude.{⊤}
-use Rattle.wy_port.specs.declared.files.LoadFault.{LoadFault}
-use Rattle.wy_port.specs.declared.files.LoadFault.TheVariants as load
-use Rattle.wy_top.specs.wy_top_answers.Answers.{refused as refusal}
 use Rattle.wy_top.specs.wy_top_answers.Showing.{Shown, ShowsWhole, Sinks}
-use Rattle.wy_top.specs.wy_top_answers.Steps.{Came, EndsFree, EndsOutside, Follows, IsOutside, IsTold, Setting, due, ends, failed, goes_on, memory, stated}
-use Rattle.wy_top.specs.wy_top_answers.Texts.{load_status, load_text}
+use Rattle.wy_top.specs.wy_top_answers.Steps.{Came, EndsFree, EndsOutside, IsTold, Setting, due, ends, goes_on, stated}
 use Rattle.wy_top.specs.wy_top_answers.declared.answer.Answer.{Answer}
 use Rattle.wy_top.specs.wy_mach_run.Running.{state_of}
-use Rattle.wy_top.specs.Acceptance.{Acceptance, accepts_file}
+use Rattle.wy_top.specs.Acceptance.{Acceptance}
 use Rattle.wy_top.specs.Launching.{run_steps, starts}
 use Rattle.wy_top.specs.Runs as code
 use Rattle.wy_top.specs.Statement as statement
@@ -22,58 +18,42 @@ use Rattle.wy_headline.proofs.ApartLemmas.{Apart, outside_apart, run_apart}
 use Rattle.wy_headline.proofs.ExactLemmas.{shown_short, whole_or}
 use Rattle.wy_headline.proofs.RunLemmas.{Shows, cut_off_of, enough_of, failed_of, result_of, spent_of, status_of}
 use Rattle.wy_headline.proofs.StartedLemmas.{IsRunOf, accepts_in, entry_of, faultless_run, file_due, is_start, launch_in, one_entry, right_run, run_due, run_of_steps}
-use Rattle.wy_headline.proofs.StepLemmas.{Refuses, err_is, file_refused, no_err, no_value, value_is}
+use Rattle.wy_headline.proofs.StepLemmas.{Refuses, by_status, err_is, file_refused, no_err, no_value, outside_by, value_is}
 
 -- ---- behind acceptance
 
 -- a status that doesn't stand there
-not_behind : (n : ℕ) → n ≢ 0 → n ≢ 7 → n ≢ 8 → n ≢ 11 → IsBehind n → ⊥
-not_behind n a b c d (inl e) = a e
-not_behind n a b c d (inr (inl e)) = b e
-not_behind n a b c d (inr (inr (inl e))) = c e
-not_behind n a b c d (inr (inr (inr e))) = d e
+abbrev IsApart : ℕ → Type 0
+IsApart n = IsBehind n → ⊥
+
+other : (n : ℕ) → n ≢ 0 → n ≢ 7 → n ≢ 8 → n ≢ 11 → IsApart n
+other n a b c d (inl e) = a e
+other n a b c d (inr (inl e)) = b e
+other n a b c d (inr (inr (inl e))) = c e
+other n a b c d (inr (inr (inr e))) = d e
+
+small : (n : ℕ) → 0 < n → n < 7 → IsApart n
+small n above below = other n (λ e. omega (arith, e, above)) (λ e. omega (arith, e, below)) (λ e. omega (arith, e, below)) (λ e. omega (arith, e, below))
+
+large : (n : ℕ) → 8 < n → n < 11 → IsApart n
+large n above below = other n (λ e. omega (arith, e, above)) (λ e. omega (arith, e, above)) (λ e. omega (arith, e, above)) (λ e. omega (arith, e, below))
+
+not_4 : IsApart 4
+not_4 = small 4 (omega arith) (omega arith)
+
+not_9 : IsApart 9
+not_9 = large 9 (omega arith) (omega arith)
 
 abbrev IsBefore : Answer → Type 0
-IsBefore a = IsBehind a.status → ⊥
-
-not_1 : IsBehind 1 → ⊥
-not_1 = not_behind 1 (λ e. omega (arith, e)) (λ e. omega (arith, e)) (λ e. omega (arith, e)) (λ e. omega (arith, e))
-
-not_3 : IsBehind 3 → ⊥
-not_3 = not_behind 3 (λ e. omega (arith, e)) (λ e. omega (arith, e)) (λ e. omega (arith, e)) (λ e. omega (arith, e))
-
-not_4 : IsBehind 4 → ⊥
-not_4 = not_behind 4 (λ e. omega (arith, e)) (λ e. omega (arith, e)) (λ e. omega (arith, e)) (λ e. omega (arith, e))
-
-not_5 : IsBehind 5 → ⊥
-not_5 = not_behind 5 (λ e. omega (arith, e)) (λ e. omega (arith, e)) (λ e. omega (arith, e)) (λ e. omega (arith, e))
-
-not_6 : IsBehind 6 → ⊥
-not_6 = not_behind 6 (λ e. omega (arith, e)) (λ e. omega (arith, e)) (λ e. omega (arith, e)) (λ e. omega (arith, e))
-
-not_9 : IsBehind 9 → ⊥
-not_9 = not_behind 9 (λ e. omega (arith, e)) (λ e. omega (arith, e)) (λ e. omega (arith, e)) (λ e. omega (arith, e))
-
-not_10 : IsBehind 10 → ⊥
-not_10 = not_behind 10 (λ e. omega (arith, e)) (λ e. omega (arith, e)) (λ e. omega (arith, e)) (λ e. omega (arith, e))
+IsBefore a = IsApart a.status
 
 before : Refuses IsBefore
-before = record { not_loaded = by; refuses = λ lines. not_1; no_certificates = λ lines. not_6 }
-  where
-    by : (f : LoadFault) (name : List ℕ) → IsBefore (refusal (load_status f) (load_text name f))
-    by load.Absent name = not_3
-    by load.TooLong name = not_10
-    by load.Failed name = not_4
-    by load.NoMemory name = not_9
-
-outside_before : (s : Setting) (a : Answer) → IsOutside s a → IsBefore a
-outside_before s a (memory e) = subst IsBefore (sym e) not_9
-outside_before s a (failed name e rose) = subst IsBefore (sym e) not_4
+before = by_status IsApart (small 1 (omega arith) (omega arith)) (small 3 (omega arith) (omega arith)) not_4 (small 6 (omega arith) (omega arith)) not_9 (large 10 (omega arith) (omega arith))
 
 -- an answer is shown whose status doesn't stand there
 shown_before : (a : Answer) (status : ℕ) (k : Sinks) → IsBefore a → Shown a status k → IsBehind status → ⊥
 shown_before a status k is (inl w) behind = is (subst IsBehind w.answer behind)
-shown_before a status k is (inr f) behind = not_5 (subst IsBehind f.answer behind)
+shown_before a status k is (inr f) behind = small 5 (omega arith) (omega arith) (subst IsBehind f.answer behind)
 
 pub none_apart : (s : Setting) (source cert name arguments : List ℕ) (budget : ℕ) (a : Answer) → HasNoRun s source cert name arguments budget a → Apart a
 none_apart s source cert name arguments budget a (inl h) = run_apart s source cert name arguments budget a h
@@ -98,27 +78,27 @@ module _ (s : Setting) (source cert name arguments : List ℕ) (budget steps : �
 
   refused_behind : (a : Answer) → HasNoRun s source cert name arguments budget a → Shown a status k → IsBehind status → Accepts s source cert budget
   refused_behind a (inl h) shown behind = stated_behind a h shown behind
-  refused_behind a (inr outside) shown behind = absurd (shown_before a status k (outside_before s a outside) shown behind)
+  refused_behind a (inr outside) shown behind = absurd (shown_before a status k (outside_by IsApart not_4 not_9 s a outside) shown behind)
 
   -- ---- what is due
 
   -- where there is no run, the status isn't 13
-  abbrev IsApart : Came Launch → Type 0
-  IsApart (Ok l) = ⊤
-  IsApart (Err a) = Apart a
+  abbrev IsNo13 : Came Launch → Type 0
+  IsNo13 (Ok l) = ⊤
+  IsNo13 (Err a) = Apart a
 
   -- of what came, nothing else is due
   abbrev Only : Came Launch → Type 0
   Only r = IsTold s → (other : Came Launch) → run_steps s source cert name arguments budget due other → (other ≡ r) ⊎ EndsFree s r
 
   -- a refusal that is due
-  refusal_due : (b : Answer) (r : Came Launch) → IsApart r → statement.ShowsRun steps stats status k r → (Err b ≡ r) ⊎ EndsFree s r → ShowsWhole b status k ⊎ IsCutShort s status k
+  refusal_due : (b : Answer) (r : Came Launch) → IsNo13 r → statement.ShowsRun steps stats status k r → (Err b ≡ r) ⊎ EndsFree s r → ShowsWhole b status k ⊎ IsCutShort s status k
   refusal_due b (Ok l) apart shown (inl e) = absurd (no_value l b e)
   refusal_due b (Ok l) apart shown (inr free) = absurd free
   refusal_due b (Err a) apart shown (inl e) = whole_or s status k b (subst (λ (c : Answer). Shown c status k) (sym (err_is b a e)) shown)
   refusal_due b (Err a) apart shown (inr free) = inr (shown_short s status k a apart free shown)
 
-  accepted_due : (r : Came Launch) → IsApart r → statement.ShowsRun steps stats status k r → Only r → IsTold s → (a : Acceptance) → AcceptsFile s source cert budget a → (b : Answer) → starts name arguments a due (Err b)
+  accepted_due : (r : Came Launch) → IsNo13 r → statement.ShowsRun steps stats status k r → Only r → IsTold s → (a : Acceptance) → AcceptsFile s source cert budget a → (b : Answer) → starts name arguments a due (Err b)
       → ShowsWhole b status k ⊎ IsCutShort s status k
   accepted_due r apart shown only told a file b is = refusal_due b r apart shown (only told (Err b) (goes_on a (file_due s source cert budget a file) is))
 

@@ -2,19 +2,14 @@
 use Rattle.std.proofs.Common.{◌≡◌, ◌≢◌, ◌⊎◌, inl, inr, ◌∙◌, ℕ, List, Ok, Err, refl, sym, ap, subst, arith}
 use Rattle.wy_core.specs.CoreTree.{Core, routines_of}
 use Rattle.wy_core.specs.Types.{Ty}
-use Rattle.wy_port.specs.declared.files.LoadFault.{LoadFault}
-use Rattle.wy_port.specs.declared.files.LoadFault.TheVariants as load
-use Rattle.wy_sound.specs.wy_sem.Evaluation.{evaluate}
 use Rattle.wy_top.specs.wy_eval_exprs.Settings.{here}
 use Rattle.wy_top.specs.wy_gen_laws.programs.Programs.{NoFault}
 use Rattle.wy_top.specs.wy_link_load.Alone.{IsAlone, loads_alone}
-use Rattle.wy_top.specs.wy_probe.Trials.{Faulted, Faultless, Finding, FindsFirst, tuples_of}
+use Rattle.wy_top.specs.wy_probe.Trials.{Faulted, Faultless, Finding, FindsFirst}
 use Rattle.wy_top.specs.wy_probe.Comes.{probe_of}
-use Rattle.wy_top.specs.wy_top_answers.Answers.{refused}
 use Rattle.wy_top.specs.wy_top_answers.Calls.{Faults as OfFaults, IsFaulted}
 use Rattle.wy_top.specs.wy_top_answers.Showing.{Shown, ShowsWhole, Sinks}
-use Rattle.wy_top.specs.wy_top_answers.Steps.{Came, EndsOutside, IsOutside, IsTold, Setting, answer_in, due, failed, goes_on, memory, stated}
-use Rattle.wy_top.specs.wy_top_answers.Texts.{load_status, load_text}
+use Rattle.wy_top.specs.wy_top_answers.Steps.{Came, EndsOutside, IsTold, Setting, answer_in, due, goes_on, stated}
 use Rattle.wy_top.specs.wy_top_answers.declared.answer.Answer.{Answer}
 use Rattle.wy_top.specs.wy_top_probe.Probing.{Checked, checked, enters, found_answer, probe_steps, probes, probes_source, reads}
 use Rattle.wy_top.specs.Statement.{IsAnswered}
@@ -22,7 +17,7 @@ use Rattle.wy_top.proofs.wy_link_load_proofs.AloneLemmas.{takes_nothing}
 use Rattle.wy_top.proofs.wy_probe_proofs.RoutineLemmas.{callee_at}
 use Rattle.wy_top.proofs.wy_top_source_proofs.OneLemmas.{one_core}
 use Rattle.wy_headline.specs.Accepted.{IsCutShort}
-use Rattle.wy_headline.specs.Probes.{Faults, FaultsIn, IsNeverAccepted, MeansProbe, ProbesAreRight, answer_of}
+use Rattle.wy_headline.specs.Probes.{Faults, FaultsIn, IsNeverAccepted, ProbesAreRight, answer_of}
 use Rattle.wy_headline.specs.Sources.{IsShown}
 use Rattle.wy_headline.proofs.ApartLemmas.{Apart, of_last}
 use Rattle.wy_headline.proofs.CandidateLemmas.{tuple_bounded}
@@ -31,7 +26,7 @@ use Rattle.wy_headline.proofs.FaultLemmas.{faultless}
 use Rattle.wy_headline.proofs.SeenLemmas.{probe_bad, probe_good}
 use Rattle.wy_headline.proofs.SourceLemmas.{source_shown}
 use Rattle.wy_headline.proofs.StartedLemmas.{accepted_hold, alone_due}
-use Rattle.wy_headline.proofs.StepLemmas.{Refuses, alone_refused, both_came, no_value, of_steps, value_is}
+use Rattle.wy_headline.proofs.StepLemmas.{Refuses, alone_refused, both_came, by_status, no_value, of_steps, outside_by, value_is}
 
 -- ---- what faults is never accepted
 
@@ -84,21 +79,11 @@ other_as : (n : ℕ) (a b : Answer) → a ≡ b → b.status ≡ n → n ≢ 12 
 unfolding status_of
 other_as n a b is of apart e = apart (sym of ∙ (sym (ap status_of is) ∙ e))
 
-outside_other : (s : Setting) (a : Answer) → IsOutside s a → Other a
-outside_other s a (memory is) = other_as 9 a _ is refl no_9
-outside_other s a (failed file is rose) = other_as 4 a _ is refl no_4
-
 faulted_other : {F : Type 0} (faults : OfFaults F) (there : F → Type 0) → ((f : F) → faults.status f ≢ 12) → (a : Answer) → IsFaulted faults there a → Other a
 faulted_other faults there apart a h = other_as (faults.status h.fault) a _ h.answer refl (apart h.fault)
 
 loading_other : Refuses Other
-loading_other = record { not_loaded = by; refuses = λ lines. no_1; no_certificates = λ lines. no_6 }
-  where
-    by : (f : LoadFault) (file : List ℕ) → Other (refused (load_status f) (load_text file f))
-    by load.Absent file = no_3
-    by load.TooLong file = no_10
-    by load.Failed file = no_4
-    by load.NoMemory file = no_9
+loading_other = by_status (λ (n : ℕ). n ≢ 12) no_1 no_3 no_4 no_6 no_9 no_10
 
 -- ---- the answer
 
@@ -148,7 +133,7 @@ module _ (s : Setting) (source name : List ℕ) (tuples ticks : ℕ) where
   by_last (Ok a) (inl h) twelve = answered_12 a h twelve
   by_last (Ok a) (inr h) twelve = absurd h
   by_last (Err a) (inl h) twelve = absurd (refused_other a h twelve)
-  by_last (Err a) (inr h) twelve = absurd (outside_other s a h twelve)
+  by_last (Err a) (inr h) twelve = absurd (outside_by (λ (n : ℕ). n ≢ 12) no_4 no_9 s a h twelve)
 
   shown_whole : (a : Answer) (status : ℕ) (k : Sinks) → Shown a status k → status ≡ 12 → ShowsWhole a status k
   shown_whole a status k (inl w) twelve = w

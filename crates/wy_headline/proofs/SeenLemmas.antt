@@ -1,5 +1,5 @@
 -- Status 13 comes of `prove` alone, for a condition that was found and not certified.
-use Rattle.std.proofs.Common.{◌≡◌, ◌≢◌, ◌⊎◌, inl, inr, ℕ, List, Bool, true, false, Option, Some, None, IfSome, Ok, Err, refl, sym, ◌∙◌, ap, subst, arith}
+use Rattle.std.proofs.Common.{◌≡◌, ◌≢◌, ◌⊎◌, inl, inr, ℕ, List, Bool, true, false, Option, Some, None, IfSome, Ok, Err, refl, sym, ◌∙◌, subst, arith}
 use Rattle.wy_top.specs.wy_top_answers.Answers.{refused, no_memory}
 use Rattle.wy_top.specs.wy_top_answers.Showing.{Shown, Sinks}
 use Rattle.wy_top.specs.wy_top_answers.Steps.{Came, EndsOutside, Setting, stated}

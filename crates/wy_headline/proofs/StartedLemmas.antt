@@ -1,9 +1,9 @@
 -- Which program is started: read off the steps of a command, and the other way round; and that its run is right.
-use Rattle.std.proofs.Common.{◌≡◌, ◌≢◌, ◌∙◌, ℕ, List, [], ◌∷◌, map, true, Option, Some, None, Ok, is_some, refl, sym, ap, subst}
+use Rattle.std.proofs.Common.{◌≡◌, ◌≢◌, ◌∙◌, ℕ, List, [], ◌∷◌, map, true, Option, Some, Ok, is_some, refl, sym, ap, subst}
 use Rattle.std.specs.Prelude.{slice_get}
 use Rattle.wy_port.specs.Told.{Told, MayBe}
 use Rattle.wy_port.specs.Told.Told.{Unknown, Lacking, Holding}
-use Rattle.wy_top.specs.wy_top_answers.Steps.{Came, IsTold, Setting, due, goes_on, stated}
+use Rattle.wy_top.specs.wy_top_answers.Steps.{IsTold, Setting, due, goes_on, stated}
 use Rattle.wy_top.specs.wy_cert.Steps.{Certificates}
 use Rattle.wy_core.specs.CoreTree.{Core, Routine, routines_of}
 use Rattle.wy_top.specs.wy_eval_exprs.Settings.{here}

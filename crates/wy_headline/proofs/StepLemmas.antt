@@ -1,11 +1,12 @@
 -- Steps one behind the other, and the answers with which they end.
 use Rattle.std.proofs.Common.{◌≡◌, ℕ, List, [], Ok, Err, sym, subst}
 use Rattle.wy_port.specs.declared.files.LoadFault.{LoadFault}
+use Rattle.wy_port.specs.declared.files.LoadFault.TheVariants as load
 use Rattle.wy_top.specs.wy_cert.Steps.{Certificates}
 use Rattle.wy_top.specs.wy_link_load.Alone.{loads_alone}
 use Rattle.wy_top.specs.wy_top_answers.Answers.{refused}
 use Rattle.wy_top.specs.wy_top_answers.Loading.{loaded}
-use Rattle.wy_top.specs.wy_top_answers.Steps.{Came, Follows, Setting, ends, goes_on, stated}
+use Rattle.wy_top.specs.wy_top_answers.Steps.{Came, Follows, IsOutside, Setting, ends, failed, goes_on, memory, stated}
 use Rattle.wy_top.specs.wy_top_answers.Texts.{load_status, load_text}
 use Rattle.wy_top.specs.wy_top_answers.declared.answer.Answer.{Answer}
 use Rattle.wy_top.specs.wy_top_answers.supplied.Certificates.{certificates, from_file, without}
@@ -49,6 +50,21 @@ pub record Refuses (P : Answer → Type 0) : Type 0 where
   pub not_loaded : (fault : LoadFault) (name : List ℕ) → P (refused (load_status fault) (load_text name fault))
   pub refuses : (lines : List ℕ) → P (refused 1 lines)
   pub no_certificates : (lines : List ℕ) → P (refused 6 lines)
+
+-- what holds of their statuses
+pub by_status : (Q : ℕ → Type 0) → Q 1 → Q 3 → Q 4 → Q 6 → Q 9 → Q 10 → Refuses (λ a. Q a.status)
+by_status Q one three four six nine ten = record { not_loaded = by; refuses = λ lines. one; no_certificates = λ lines. six }
+  where
+    by : (f : LoadFault) (name : List ℕ) → Q (refused (load_status f) (load_text name f)).status
+    by load.Absent name = three
+    by load.TooLong name = ten
+    by load.Failed name = four
+    by load.NoMemory name = nine
+
+-- and of those of answers from outside
+pub outside_by : (Q : ℕ → Type 0) → Q 4 → Q 9 → (s : Setting) (a : Answer) → IsOutside s a → Q a.status
+outside_by Q four nine s a (memory e) = subst (λ (b : Answer). Q b.status) (sym e) nine
+outside_by Q four nine s a (failed name e rose) = subst (λ (b : Answer). Q b.status) (sym e) four
 
 module _ (P : Answer → Type 0) (c : Refuses P) where
   pub loaded_refused : (s : Setting) (name : List ℕ) (limit : ℕ) (a : Answer) → loaded s name limit (Err a) → P a

@@ -1,5 +1,5 @@
 -- What does the command `big` come to?
-use Rattle.std.specs.Prelude.{◌≡◌, ◌⊎◌, ◌++◌, ◌≤◌, ℕ, List, length, Ok, Err}
+use Rattle.std.specs.Prelude.{◌≡◌, ◌⊎◌, ◌++◌, ◌≤◌, ℕ, List, length, Err}
 use Rattle.wy_top.specs.wy_top_answers.Answers.{refused, written as writes}
 use Rattle.wy_top.specs.wy_top_answers.Loading.{source_limit}
 use Rattle.wy_top.specs.wy_top_answers.Showing.{Shown, ShowsWhole, Sinks}
