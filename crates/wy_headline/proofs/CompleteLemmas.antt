@@ -205,4 +205,4 @@ module _ (s : Setting) (v : Saving) (status : ℕ) (k : Sinks) (none : NoneRose 
   complete words (inr shown) = let w = whole no_memory shown in inr w.answer
 
 pub calls_complete : CallsAreComplete
-calls_complete words s v status k h none = complete s v status k none words h
+calls_complete words s v status k h = record { whole = λ none. complete s v status k none words h }

@@ -94,8 +94,8 @@ DoesWholeIf (Some asked) s v status k = DoesWhole asked s v status k
 DoesWholeIf None s v status k = ShowsWhole (refused 2 words_refused) status k
 
 -- where no count of faults rose, what the words ask for is done, its status and its bytes whole; or memory ran out
-abbrev pub IsComplete : List (List ℕ) → Setting → Saving → ℕ → Sinks → Type 0
-IsComplete words s v status k = NoneRose s v k → DoesWholeIf (command_of words) s v status k ⊎ (status ≡ 9)
+pub record IsComplete (words : List (List ℕ)) (s : Setting) (v : Saving) (status : ℕ) (k : Sinks) : Type 0 where
+  pub whole : NoneRose s v k → DoesWholeIf (command_of words) s v status k ⊎ (status ≡ 9)
 
 -- so is each call of which the clause of `run_words` holds
 abbrev pub CallsAreComplete : Type 0
