@@ -7,12 +7,14 @@ use Rattle.wy_top.specs.Saves.{Saving}
 use Rattle.wy_top.specs.Statement.{Comes, Does, DoesIf}
 use Rattle.wy_top_words.specs.CommandLine.{Asked, check, run, prove, conds, fmt, dis, big, probe, command_of}
 use Rattle.wy_headline.specs.Means.{CallsMean, MeansAsked, MeansIf}
-use Rattle.wy_headline.proofs.CommandLemmas.{large_right, runs_right}
+use Rattle.wy_headline.proofs.CheckLemmas.{checks_right}
+use Rattle.wy_headline.proofs.HeadlineLemmas.{runs_right}
+use Rattle.wy_headline.proofs.LargeLemmas.{large_right}
 use Rattle.wy_headline.proofs.ProbeLemmas.{probes_right}
 use Rattle.wy_headline.proofs.SeenLemmas.{never_sticks}
 
 asked_means : (asked : Asked) (s : Setting) (v : Saving) (status : ℕ) (k : Sinks) → Does asked s v status k → MeansAsked asked s status k
-asked_means (check source cert budget) s v status k h = tt
+asked_means (check source cert budget) s v status k h = checks_right s source cert budget status k h
 asked_means (run source cert name arguments budget steps stats) s v status k h = runs_right s source cert name arguments budget steps stats status k h
 asked_means (prove source output budget) s v status k h = tt
 asked_means (conds source) s v status k h = tt

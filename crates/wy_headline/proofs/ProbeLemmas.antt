@@ -2,34 +2,31 @@
 use Rattle.std.proofs.Common.{◌≡◌, ◌≢◌, ◌⊎◌, inl, inr, ◌∙◌, ℕ, List, Ok, Err, refl, sym, ap, subst, arith}
 use Rattle.wy_core.specs.CoreTree.{Core, routines_of}
 use Rattle.wy_core.specs.Types.{Ty}
-use Rattle.wy_port.specs.declared.files.LoadFault.{LoadFault}
-use Rattle.wy_port.specs.declared.files.LoadFault.TheVariants as load
-use Rattle.wy_sound.specs.wy_sem.Evaluation.{evaluate}
 use Rattle.wy_top.specs.wy_eval_exprs.Settings.{here}
 use Rattle.wy_top.specs.wy_gen_laws.programs.Programs.{NoFault}
-use Rattle.wy_top.specs.wy_link_load.Alone.{loads_alone}
-use Rattle.wy_top.specs.wy_probe.Trials.{Faulted, Faultless, Finding, FindsFirst, tuples_of}
+use Rattle.wy_top.specs.wy_link_load.Alone.{IsAlone, loads_alone}
+use Rattle.wy_top.specs.wy_probe.Trials.{Faulted, Faultless, Finding, FindsFirst}
 use Rattle.wy_top.specs.wy_probe.Comes.{probe_of}
-use Rattle.wy_top.specs.wy_top_answers.Answers.{refused}
 use Rattle.wy_top.specs.wy_top_answers.Calls.{Faults as OfFaults, IsFaulted}
 use Rattle.wy_top.specs.wy_top_answers.Showing.{Shown, ShowsWhole, Sinks}
-use Rattle.wy_top.specs.wy_top_answers.Steps.{Came, EndsOutside, Follows, IsOutside, IsTold, Setting, answer_in, due, ends, failed, goes_on, memory, stated}
-use Rattle.wy_top.specs.wy_top_answers.Texts.{load_status, load_text}
+use Rattle.wy_top.specs.wy_top_answers.Steps.{Came, EndsOutside, IsTold, Setting, answer_in, due, goes_on, stated}
 use Rattle.wy_top.specs.wy_top_answers.declared.answer.Answer.{Answer}
-use Rattle.wy_top.specs.Exact.{IsElse}
 use Rattle.wy_top.specs.wy_top_probe.Probing.{Checked, checked, enters, found_answer, probe_steps, probes, probes_source, reads}
 use Rattle.wy_top.specs.Statement.{IsAnswered}
-use Rattle.wy_top.proofs.ExactLemmas.{answered}
 use Rattle.wy_top.proofs.wy_link_load_proofs.AloneLemmas.{takes_nothing}
-use Rattle.wy_top.proofs.wy_link_load_proofs.AnswerLemmas.{alone_covered}
 use Rattle.wy_top.proofs.wy_probe_proofs.RoutineLemmas.{callee_at}
 use Rattle.wy_top.proofs.wy_top_source_proofs.OneLemmas.{one_core}
-use Rattle.wy_headline.specs.Probes.{Faults, FaultsIn, IsNeverAccepted, MeansProbe, ProbesAreRight, answer_of}
+use Rattle.wy_headline.specs.Accepted.{IsCutShort}
+use Rattle.wy_headline.specs.Probes.{Faults, FaultsIn, IsNeverAccepted, ProbesAreRight, answer_of}
 use Rattle.wy_headline.specs.Sources.{IsShown}
+use Rattle.wy_headline.proofs.ApartLemmas.{Apart, of_last}
 use Rattle.wy_headline.proofs.CandidateLemmas.{tuple_bounded}
+use Rattle.wy_headline.proofs.ExactLemmas.{exactly}
 use Rattle.wy_headline.proofs.FaultLemmas.{faultless}
+use Rattle.wy_headline.proofs.SeenLemmas.{probe_bad, probe_good}
 use Rattle.wy_headline.proofs.SourceLemmas.{source_shown}
-use Rattle.wy_headline.proofs.StartedLemmas.{both_came}
+use Rattle.wy_headline.proofs.StartedLemmas.{accepted_hold, alone_due}
+use Rattle.wy_headline.proofs.StepLemmas.{Refuses, alone_refused, both_came, by_status, no_value, of_steps, outside_by, value_is}
 
 -- ---- what faults is never accepted
 
@@ -44,7 +41,7 @@ module _ (bytes name : List ℕ) (tuples ticks : ℕ) (f : Faults bytes name tup
   pub never_accepted : IsNeverAccepted bytes
   never_accepted s cert budget a h =
       let same = one_core bytes a.program.core f.core a.program.flow f.flow h.owes.program f.program in
-      never_shown a.program.flow (subst (λ (c : Core ℕ). IsShown c a.program.flow) same (source_shown bytes a.program.core a.program.flow h.owes.program h.holds))
+      never_shown a.program.flow (subst (λ (c : Core ℕ). IsShown c a.program.flow) same (source_shown bytes a.program.core a.program.flow h.owes.program (accepted_hold s cert budget bytes a h)))
 
 -- ---- which answers have another status
 
@@ -63,6 +60,9 @@ no_3 e = omega (arith, e)
 no_4 : ◌≢◌ {A = ℕ} 4 12
 no_4 e = omega (arith, e)
 
+no_6 : ◌≢◌ {A = ℕ} 6 12
+no_6 e = omega (arith, e)
+
 no_7 : ◌≢◌ {A = ℕ} 7 12
 no_7 e = omega (arith, e)
 
@@ -79,43 +79,19 @@ other_as : (n : ℕ) (a b : Answer) → a ≡ b → b.status ≡ n → n ≢ 12 
 unfolding status_of
 other_as n a b is of apart e = apart (sym of ∙ (sym (ap status_of is) ∙ e))
 
-outside_other : (s : Setting) (a : Answer) → IsOutside s a → Other a
-outside_other s a (memory is) = other_as 9 a _ is refl no_9
-outside_other s a (failed file is rose) = other_as 4 a _ is refl no_4
-
 faulted_other : {F : Type 0} (faults : OfFaults F) (there : F → Type 0) → ((f : F) → faults.status f ≢ 12) → (a : Answer) → IsFaulted faults there a → Other a
 faulted_other faults there apart a h = other_as (faults.status h.fault) a _ h.answer refl (apart h.fault)
 
-alone_other : (s : Setting) (name : List ℕ) (a : Answer) → loads_alone s name stated (Err a) → Other a
-alone_other s name a h = alone_covered Other (record { not_loaded = by; refuses = λ lines. no_1 }) s name a h
-  where
-    by : (f : LoadFault) (file : List ℕ) → Other (refused (load_status f) (load_text file f))
-    by load.Absent file = no_3
-    by load.TooLong file = no_10
-    by load.Failed file = no_4
-    by load.NoMemory file = no_9
-
-one_answer : {Y : Type 0} (a b : Answer) → (let r : Came Y = Err a in r ≡ Err b) → a ≡ b
-one_answer a b e = cc
-
-no_answer : (a b : Answer) → (let r : Came Answer = Err a in r ≡ Ok b) → ⊥
-no_answer a b e = absurd cc
-
-of_steps : {X Y : Type 0} (first : Came X → Type 0) (next : X → Came Y → Type 0) → ((a : Answer) → first (Err a) → Other a) → ((x : X) (a : Answer) → next x (Err a) → Other a)
-    → (a : Answer) → Follows first next (Err a) → Other a
-of_steps first next one two a (goes_on x h g) = two x a g
-of_steps first next one two a (ends b h e) = subst Other (sym (one_answer a b e)) (one b h)
+loading_other : Refuses Other
+loading_other = by_status (λ (n : ℕ). n ≢ 12) no_1 no_3 no_4 no_6 no_9 no_10
 
 -- ---- the answer
-
-answer_is : (a b : Answer) → (let r : Came Answer = Ok a in r ≡ Ok b) → a ≡ b
-answer_is a b e = cc
 
 module _ (s : Setting) (source name : List ℕ) (tuples ticks : ℕ) where
   refused_other : (a : Answer) → probe_steps s source name tuples ticks stated (Err a) → Other a
   refused_other a h =
-      of_steps _ _ (λ b g. alone_other s source b g) (λ bytes b g. of_steps _ _ (λ c i. faulted_other _ _ (λ f. no_1) c i)
-      (λ p c i. of_steps _ _ (λ d j. faulted_other _ _ (λ f. no_7) d j) (λ entry d j. absurd (no_answer d _ j.answer)) c i) b g) a h
+      of_steps Other _ _ (λ b g. alone_refused Other loading_other s source b g) (λ bytes b g. of_steps Other _ _ (λ c i. faulted_other _ _ (λ f. no_1) c i)
+      (λ p c i. of_steps Other _ _ (λ d j. faulted_other _ _ (λ f. no_7) d j) (λ entry d j. absurd (no_value _ d j.answer)) c i) b g) a h
 
   -- the source faults so, and this is the answer
   record Came12 (a : Answer) : Type 0 where
@@ -151,13 +127,13 @@ module _ (s : Setting) (source name : List ℕ) (tuples ticks : ℕ) where
       let f = both_came _ _ a h in
       let g = both_came _ _ a f.then in
       let i = both_came _ _ a g.then in
-      by_finding f.value a f.came g.value g.came i.value i.came i.then.finding i.then.finds (answer_is a _ i.then.answer) twelve
+      by_finding f.value a f.came g.value g.came i.value i.came i.then.finding i.then.finds (value_is a _ i.then.answer) twelve
 
-  of_last : (last : Came Answer) → probe_steps s source name tuples ticks stated last ⊎ EndsOutside s last → (answer_in last).status ≡ 12 → Came12 (answer_in last)
-  of_last (Ok a) (inl h) twelve = answered_12 a h twelve
-  of_last (Ok a) (inr h) twelve = absurd h
-  of_last (Err a) (inl h) twelve = absurd (refused_other a h twelve)
-  of_last (Err a) (inr h) twelve = absurd (outside_other s a h twelve)
+  by_last : (last : Came Answer) → probe_steps s source name tuples ticks stated last ⊎ EndsOutside s last → (answer_in last).status ≡ 12 → Came12 (answer_in last)
+  by_last (Ok a) (inl h) twelve = answered_12 a h twelve
+  by_last (Ok a) (inr h) twelve = absurd h
+  by_last (Err a) (inl h) twelve = absurd (refused_other a h twelve)
+  by_last (Err a) (inr h) twelve = absurd (outside_by (λ (n : ℕ). n ≢ 12) no_4 no_9 s a h twelve)
 
   shown_whole : (a : Answer) (status : ℕ) (k : Sinks) → Shown a status k → status ≡ 12 → ShowsWhole a status k
   shown_whole a status k (inl w) twelve = w
@@ -168,7 +144,7 @@ module _ (s : Setting) (source name : List ℕ) (tuples ticks : ℕ) where
     shows_fault twelve =
         let w = shown_whole h.answer status k h.shown twelve in
         let is : h.answer.status ≡ 12 = sym w.answer ∙ twelve in
-        let c = subst Came12 (sym h.answers.is) (of_last h.answers.last h.answers.gives.comes (subst (λ (a : Answer). a.status ≡ 12) h.answers.is is)) in
+        let c = subst Came12 (sym h.answers.is) (by_last h.answers.last h.answers.gives.comes (subst (λ (a : Answer). a.status ≡ 12) h.answers.is is)) in
         record {
           bytes = c.bytes;
           alone = takes_nothing s source c.bytes c.alone;
@@ -177,13 +153,15 @@ module _ (s : Setting) (source name : List ℕ) (tuples ticks : ℕ) where
           never = never_accepted c.bytes name tuples ticks c.faults;
         }
 
-    shows_due : IsTold s → (bytes : List ℕ) → loads_alone s source due (Ok bytes) → (f : Faults bytes name tuples ticks) → ShowsWhole (answer_of bytes name tuples ticks f) status k ⊎ IsElse status
+    shows_due : IsTold s → (bytes : List ℕ) → IsAlone s source bytes → (f : Faults bytes name tuples ticks) → ShowsWhole (answer_of bytes name tuples ticks f) status k ⊎ IsCutShort s status k
     shows_due told bytes alone f =
+        let steps = probe_steps s source name tuples ticks in
+        let apart = subst Apart (sym h.answers.is) (of_last s steps (probe_good s source name tuples ticks) (probe_bad s source name tuples ticks) h.answers.last h.answers.gives.comes) in
         let answer = answer_of bytes name tuples ticks f in
         let finding = Faulted f.number f.values f.kind f.at in
         let found : probes bytes f.core tuples ticks f.entry due (Ok answer) = record { finding = finding; finds = f.finds; answer = refl } in
         let entered : probes_source source name tuples ticks bytes due (Ok answer) = goes_on (checked f.core f.flow) f.program (goes_on f.entry (f.routine, f.named) found) in
-        answered s (probe_steps s source name tuples ticks) status k h told (Ok answer) (goes_on bytes alone entered)
+        exactly s status k steps h apart told (Ok answer) (goes_on bytes (alone_due s source bytes alone) entered)
 
 pub probes_right : ProbesAreRight
 probes_right s source name tuples ticks status k h = record { faults = shows_fault s source name tuples ticks status k h; is_due = shows_due s source name tuples ticks status k h }

@@ -1,62 +1,39 @@
 -- Status 13 comes of `prove` alone, for a condition that was found and not certified.
-use Rattle.std.proofs.Common.{◌≡◌, ◌≢◌, ◌⊎◌, inl, inr, ℕ, List, [], Bool, true, false, Option, Some, None, Ok, Err, refl, sym, ◌∙◌, ap, subst, arith}
+use Rattle.std.proofs.Common.{◌≡◌, ◌≢◌, ◌⊎◌, inl, inr, ℕ, List, Bool, true, false, Option, Some, None, IfSome, Ok, Err, refl, sym, ◌∙◌, subst, arith}
 use Rattle.wy_top.specs.wy_top_answers.Answers.{refused, no_memory}
-use Rattle.wy_top.specs.wy_top_answers.Calls.{Faults, IsFaulted}
-use Rattle.wy_top.specs.wy_top_answers.Loading.{loaded}
 use Rattle.wy_top.specs.wy_top_answers.Showing.{Shown, Sinks}
-use Rattle.wy_top.specs.wy_top_answers.Steps.{Came, EndsOutside, Follows, goes_on, ends, IsOutside, Sense, Setting, answer_in, failed, memory, stated}
-use Rattle.wy_top.specs.wy_top_answers.Texts.{load_status, load_text, not_certified}
+use Rattle.wy_top.specs.wy_top_answers.Steps.{Came, EndsOutside, Setting, stated}
+use Rattle.wy_top.specs.wy_top_answers.Texts.{not_certified}
 use Rattle.wy_top.specs.wy_top_answers.declared.answer.Answer.{Answer}
-use Rattle.wy_top.specs.wy_cert.Steps.{Certificates}
 use Rattle.wy_core.specs.CoreTree.{Core}
 use Rattle.wy_port.specs.Taken.{with_taken}
-use Rattle.wy_port.specs.declared.files.LoadFault.{LoadFault}
-use Rattle.wy_port.specs.declared.files.LoadFault.TheVariants as load
-use Rattle.wy_top.specs.wy_mach_run.declared.fault.StartFault.{StartFault}
-use Rattle.wy_top.specs.wy_mach_run.declared.fault.StartFault.TheVariants as start
-use Rattle.wy_top.specs.wy_top_answers.supplied.Certificates.{certificates, from_file, no_file, without}
 use Rattle.wy_top.specs.wy_top_answers.report.Lines.{save_failed, words_refused}
-use Rattle.wy_top_big.specs.Source.{argument_text, entry}
-use Rattle.wy_top.specs.wy_link_load.Alone.{loads_alone}
 use Rattle.wy_top.specs.wy_probe.Trials.{Finding, Faulted, Faultless}
-use Rattle.wy_top.proofs.wy_link_load_proofs.AnswerLemmas.{alone_covered}
-use Rattle.wy_top.specs.Acceptance.{Acceptance, accepts, accepts_file, accepts_source, are_closed, check_steps}
+use Rattle.wy_top.specs.Acceptance.{are_closed, check_steps}
 use Rattle.wy_top.specs.wy_batch.Known.{Known}
-use Rattle.wy_top.specs.Large.{large_name, makes_one}
-use Rattle.wy_top.specs.Launching.{fault_status, run_steps, starts}
 use Rattle.wy_top.specs.wy_top_probe.Probing.{IsProbed, enters, found_answer, probe_steps, reads}
-use Rattle.wy_top.specs.Programs.{Program, owes}
+use Rattle.wy_top.specs.Programs.{Program}
 use Rattle.wy_top.specs.Proofs.{IsJudged, proof_answer, proves_file}
 use Rattle.wy_top.specs.Saves.{Saves, Saving}
 use Rattle.wy_top.specs.Saves as saves
-use Rattle.wy_top.specs.Statement.{Does, DoesIf, IsAnswered, ShowsProof}
+use Rattle.wy_top.specs.Statement.{Does, DoesIf, ShowsProof}
 use Rattle.wy_top.specs.Texts.{source_for, text, text_steps}
 use Rattle.wy_top.specs.declared.texts.Text.{Text}
 use Rattle.wy_top.specs.declared.texts.Text.TheVariants as kind_of
 use Rattle.wy_top_words.specs.CommandLine.{Asked, check, run, prove, conds, fmt, dis, big, probe, command_of}
-use Rattle.wy_headline.specs.Commands.{AnswersLarge, ComesToLarge, ComesToRun, large_start, line_written, ran, ran_large, refused_large, refused_run, steps_spend}
-use Rattle.wy_headline.specs.Runs as of_runs
+use Rattle.wy_headline.specs.Headline.{HasNoRun, Headline, IsOfRun}
 use Rattle.wy_headline.specs.Runs.{Entry}
 use Rattle.wy_headline.specs.Seen.{IsNeverStuck, IsNotCertified, NeverSticks}
-use Rattle.wy_headline.proofs.CommandLemmas.{large_right, runs_right}
+use Rattle.wy_headline.proofs.HeadlineLemmas.{none_apart, runs_right}
+use Rattle.wy_headline.proofs.LargeLemmas.{large_comes, large_right}
+use Rattle.wy_headline.proofs.ApartLemmas.{Apart, answered_apart, check_bad, check_good, faulted_apart, no_0, no_1, no_12, no_2, no_5, no_7, no_8, no_9, none_is, other, others, outside_apart, shown_apart, value_apart}
+use Rattle.wy_headline.proofs.StepLemmas.{alone_refused, loaded_refused, no_value, of_steps, owes_refused, value_is}
 
--- ---- answers
-
--- its status isn't 13
-abbrev Apart : Answer → Type 0
-Apart a = a.status ≢ 13
+-- ---- what is found and not certified
 
 -- where its status is 13, it is the line for a condition that was found and not certified
 abbrev Fine : Answer → Type 0
 Fine a = a.status ≡ 13 → a ≡ refused 13 not_certified
-
-status_of : Answer → ℕ
-status_of a = a.status
-
--- an answer with another status
-other : (n : ℕ) (a b : Answer) → a ≡ b → b.status ≡ n → n ≢ 13 → Apart a
-unfolding status_of
-other n a b is of apart e = absurd (apart (sym of ∙ (sym (ap status_of is) ∙ e)))
 
 fine : (a : Answer) → Apart a → Fine a
 fine a apart e = absurd (apart e)
@@ -64,165 +41,16 @@ fine a apart e = absurd (apart e)
 found : (a : Answer) → a ≡ refused 13 not_certified → Fine a
 found a is e = is
 
-no_0 : ◌≢◌ {A = ℕ} 0 13
-no_0 e = omega (arith, e)
-
-no_1 : ◌≢◌ {A = ℕ} 1 13
-no_1 e = omega (arith, e)
-
-no_2 : ◌≢◌ {A = ℕ} 2 13
-no_2 e = omega (arith, e)
-
-no_3 : ◌≢◌ {A = ℕ} 3 13
-no_3 e = omega (arith, e)
-
-no_4 : ◌≢◌ {A = ℕ} 4 13
-no_4 e = omega (arith, e)
-
-no_5 : ◌≢◌ {A = ℕ} 5 13
-no_5 e = omega (arith, e)
-
-no_6 : ◌≢◌ {A = ℕ} 6 13
-no_6 e = omega (arith, e)
-
-no_7 : ◌≢◌ {A = ℕ} 7 13
-no_7 e = omega (arith, e)
-
-no_8 : ◌≢◌ {A = ℕ} 8 13
-no_8 e = omega (arith, e)
-
-no_9 : ◌≢◌ {A = ℕ} 9 13
-no_9 e = omega (arith, e)
-
-no_10 : ◌≢◌ {A = ℕ} 10 13
-no_10 e = omega (arith, e)
-
-no_11 : ◌≢◌ {A = ℕ} 11 13
-no_11 e = omega (arith, e)
-
-no_12 : ◌≢◌ {A = ℕ} 12 13
-no_12 e = omega (arith, e)
-
-shown_apart : (a : Answer) (status : ℕ) (k : Sinks) → Apart a → Shown a status k → status ≢ 13
-shown_apart a status k apart (inl w) e = apart (sym w.answer ∙ e)
-shown_apart a status k apart (inr f) e = let five = f.answer in omega (arith, five, e)
-
 shown_fine : (a : Answer) (status : ℕ) (k : Sinks) → Fine a → Shown a status k → IsNotCertified status k
 shown_fine a status k is_fine (inl w) e =
     let is = is_fine (sym w.answer ∙ e) in
     (subst (λ (b : Answer). k.out_after ≡ with_taken k.out_before b.out) is w.out, subst (λ (b : Answer). k.err_after ≡ with_taken k.err_before b.err) is w.err)
 shown_fine a status k is_fine (inr f) e = let five = f.answer in absurd (omega (arith, five, e))
 
--- another status
-others : (n status : ℕ) → status ≡ n → n ≢ 13 → status ≢ 13
-others n status is apart e = absurd (apart (sym is ∙ e))
-
--- ---- steps
-
-err_is : {Y : Type 0} (a b : Answer) → (let r : Came Y = Err a in r ≡ Err b) → a ≡ b
-err_is a b e = cc
-
--- an answer of the first or of the second step
-of_steps : {X Y : Type 0} (P : Answer → Type 0) (first : Came X → Type 0) (next : X → Came Y → Type 0) → ((a : Answer) → first (Err a) → P a) → ((x : X) (a : Answer) → next x (Err a) → P a) → (a : Answer) → Follows first next (Err a) → P a
-of_steps P first next one two a (goes_on x h g) = two x a g
-of_steps P first next one two a (ends b h e) = subst P (sym (err_is a b e)) (one b h)
-
-outside_apart : (s : Setting) (a : Answer) → IsOutside s a → Apart a
-outside_apart s a (memory e) = other 9 a _ e refl no_9
-outside_apart s a (failed name e rose) = other 4 a _ e refl no_4
-
-loaded_apart : (s : Setting) (name : List ℕ) (limit : ℕ) (a : Answer) → loaded s name limit (Err a) → Apart a
-loaded_apart s name limit a h = by h.fault h.answer
-  where
-    by : (f : LoadFault) → a ≡ refused (load_status f) (load_text name f) → Apart a
-    by load.Absent e = other 3 a _ e refl no_3
-    by load.TooLong e = other 10 a _ e refl no_10
-    by load.Failed e = other 4 a _ e refl no_4
-    by load.NoMemory e = other 9 a _ e refl no_9
-
--- those of loading a source that imports nothing
-alone_apart : (s : Setting) (name : List ℕ) (a : Answer) → loads_alone s name stated (Err a) → Apart a
-alone_apart s name a h = alone_covered Apart (record { not_loaded = by; refuses = λ lines. no_1 }) s name a h
-  where
-    by : (f : LoadFault) (file : List ℕ) → Apart (refused (load_status f) (load_text file f))
-    by load.Absent file = no_3
-    by load.TooLong file = no_10
-    by load.Failed file = no_4
-    by load.NoMemory file = no_9
-
--- a fault of another status
-faulted_apart : {F : Type 0} (faults : Faults F) (there : F → Type 0) → ((f : F) → faults.status f ≢ 13) → (a : Answer) → IsFaulted faults there a → Apart a
-faulted_apart faults there apart a h = other (faults.status h.fault) a _ h.answer refl (apart h.fault)
-
-owes_apart : (name bytes : List ℕ) (a : Answer) → owes name bytes stated (Err a) → Apart a
-owes_apart name bytes a h = faulted_apart _ _ (λ f. no_1) a h
-
--- no value is an answer
-no_value : {X : Type 0} (x : X) (a : Answer) → (let r : Came X = Err a in r ≡ Ok x) → ⊥
-no_value x a e = absurd cc
-
-certificates_apart : (s : Setting) (name : List ℕ) (count : ℕ) (a : Answer) → certificates s name count (Err a) → Apart a
-certificates_apart s name count a (without is e) = absurd (no_value [] a e)
-certificates_apart s name count a (from_file is h) = of_steps Apart _ _ (λ b g. loaded_apart s name _ b g) (λ bytes b g. other 6 b _ g.answer refl no_6) a h
-
-accepts_apart : (name cert bytes : List ℕ) (p : Program) (certs : Certificates) (budget : ℕ) (a : Answer) → accepts name cert bytes p certs budget stated (Err a) → Apart a
-accepts_apart name cert bytes p certs budget a h = other 1 a _ h.answer refl no_1
-
-source_apart : (s : Setting) (name cert : List ℕ) (budget : ℕ) (bytes : List ℕ) (a : Answer) → accepts_source s name cert budget bytes stated (Err a) → Apart a
-source_apart s name cert budget bytes a h =
-    of_steps Apart _ _ (λ b g. owes_apart name bytes b g) (λ p b g. of_steps Apart _ _ (λ c f. certificates_apart s cert _ c f) (λ certs c f. accepts_apart name cert bytes p certs budget c f) b g) a h
-
-file_apart : (s : Setting) (name cert : List ℕ) (budget : ℕ) (a : Answer) → accepts_file s name cert budget stated (Err a) → Apart a
-file_apart s name cert budget a h = of_steps Apart _ _ (λ b g. alone_apart s name b g) (λ bytes b g. source_apart s name cert budget bytes b g) a h
-
-start_status : (f : StartFault) → fault_status f ≢ 13
-start_status start.NoEntry = no_7
-start_status (start.Argument fault) = no_7
-start_status (start.OtherCount count) = no_7
-start_status (start.OtherType number) = no_7
-start_status (start.RequiresFails number) = no_7
-start_status start.TurnsSpent = no_11
-start_status start.NoMemory = no_9
-
-starts_apart : (name arguments : List ℕ) (a : Acceptance) (b : Answer) → starts name arguments a stated (Err b) → Apart b
-starts_apart name arguments a b h = faulted_apart _ _ start_status b h
-
-run_apart : (s : Setting) (source cert name arguments : List ℕ) (budget : ℕ) (a : Answer) → run_steps s source cert name arguments budget stated (Err a) → Apart a
-run_apart s source cert name arguments budget a h = of_steps Apart _ _ (λ b g. file_apart s source cert budget b g) (λ x b g. starts_apart name arguments x b g) a h
-
 -- ---- commands that answer
 
-answer_is : (a b : Answer) → (let r : Came Answer = Ok a in r ≡ Ok b) → a ≡ b
-answer_is a b e = cc
-
-no_answer : (a b : Answer) → (let r : Came Answer = Err a in r ≡ Ok b) → ⊥
-no_answer a b e = absurd cc
-
--- what steps come to has another status, where it came from outside too
-of_last : (s : Setting) (step : Sense → Came Answer → Type 0) → ((a : Answer) → step stated (Ok a) → Apart a) → ((a : Answer) → step stated (Err a) → Apart a)
-    → (last : Came Answer) → step stated last ⊎ EndsOutside s last → Apart (answer_in last)
-of_last s step good bad (Ok a) (inl h) = good a h
-of_last s step good bad (Ok a) (inr h) = absurd h
-of_last s step good bad (Err a) (inl h) = bad a h
-of_last s step good bad (Err a) (inr h) = outside_apart s a h
-
-answered_apart : (s : Setting) (step : Sense → Came Answer → Type 0) → ((a : Answer) → step stated (Ok a) → Apart a) → ((a : Answer) → step stated (Err a) → Apart a)
-    → (status : ℕ) (k : Sinks) → IsAnswered s step status k → status ≢ 13
-answered_apart s step good bad status k h = shown_apart h.answer status k (subst Apart (sym h.answers.is) (of_last s step good bad h.answers.last h.answers.gives.comes)) h.shown
-
--- what stands last in two steps
-value_apart : {X : Type 0} (first : Came X → Type 0) (next : X → Came Answer → Type 0) → ((x : X) (a : Answer) → next x (Ok a) → Apart a) → (a : Answer) → Follows first next (Ok a) → Apart a
-value_apart first next two a (goes_on x h g) = two x a g
-value_apart first next two a (ends b h e) = absurd (no_answer b a (sym e))
-
-check_good : (s : Setting) (source cert : List ℕ) (budget : ℕ) (a : Answer) → check_steps s source cert budget stated (Ok a) → Apart a
-check_good s source cert budget a h = value_apart _ _ (λ x b g. other 0 b _ (answer_is b _ g) refl no_0) a h
-
-check_bad : (s : Setting) (source cert : List ℕ) (budget : ℕ) (a : Answer) → check_steps s source cert budget stated (Err a) → Apart a
-check_bad s source cert budget a h = of_steps Apart _ _ (λ b g. file_apart s source cert budget b g) (λ x b g. absurd (no_answer b _ g)) a h
-
 text_good : (s : Setting) (kind : Text) (source : List ℕ) (a : Answer) → text_steps s kind source stated (Ok a) → Apart a
-text_good s kind source a h = value_apart _ _ (λ x b g. other 0 b _ (answer_is b _ g) refl no_0) a h
+text_good s kind source a h = value_apart _ _ (λ x b g. other 0 b _ (value_is b _ g) refl no_0) a h
 
 text_kind_apart : (kind : Text) (source bytes : List ℕ) (a : Answer) → text kind source bytes stated (Err a) → Apart a
 text_kind_apart kind_of.Layout source bytes a h = faulted_apart _ _ (λ f. no_1) a h
@@ -230,45 +58,29 @@ text_kind_apart kind_of.Listing source bytes a h = faulted_apart _ _ (λ f. no_1
 text_kind_apart kind_of.Conditions source bytes a h = faulted_apart _ _ (λ f. no_1) a h
 
 text_source_apart : (s : Setting) (kind : Text) (source : List ℕ) (a : Answer) → source_for s kind source stated (Err a) → Apart a
-text_source_apart s kind_of.Layout source a h = loaded_apart s source _ a h
-text_source_apart s kind_of.Listing source a h = alone_apart s source a h
-text_source_apart s kind_of.Conditions source a h = alone_apart s source a h
+text_source_apart s kind_of.Layout source a h = loaded_refused Apart none_is s source _ a h
+text_source_apart s kind_of.Listing source a h = alone_refused Apart none_is s source a h
+text_source_apart s kind_of.Conditions source a h = alone_refused Apart none_is s source a h
 
 text_bad : (s : Setting) (kind : Text) (source : List ℕ) (a : Answer) → text_steps s kind source stated (Err a) → Apart a
 text_bad s kind source a h =
-    of_steps Apart _ _ (λ b g. of_steps Apart _ _ (λ c f. text_source_apart s kind source c f) (λ bytes c f. text_kind_apart kind source bytes c f) b g) (λ x b g. absurd (no_answer b _ g)) a h
+    of_steps Apart _ _ (λ b g. of_steps Apart _ _ (λ c f. text_source_apart s kind source c f) (λ bytes c f. text_kind_apart kind source bytes c f) b g) (λ x b g. absurd (no_value _ b g)) a h
 
 -- ---- runs
 
-ran_apart : (e : Entry) (lines : List ℕ) (wanted asked : Bool) (steps status : ℕ) (k : Sinks) → of_runs.ShowsRun e lines wanted asked steps status k → status ≢ 13
-ran_apart e lines wanted asked steps status k (of_runs.finished v output copies nodes is done out left err) = others 0 status is no_0
-ran_apart e lines wanted asked steps status k (of_runs.spends output is goes out err) = others 8 status is no_8
-ran_apart e lines wanted asked steps status k (of_runs.sink_failed is rose out err) = others 5 status is no_5
-ran_apart e lines wanted asked steps status k (of_runs.no_memory is out err) = others 9 status is no_9
+ran_apart : (status : ℕ) → IsOfRun status → status ≢ 13
+ran_apart status (inl is) = others 0 status is no_0
+ran_apart status (inr (inl is)) = others 8 status is no_8
+ran_apart status (inr (inr (inl is))) = others 5 status is no_5
+ran_apart status (inr (inr (inr is))) = others 9 status is no_9
 
-run_comes : (s : Setting) (source cert name arguments : List ℕ) (budget steps : ℕ) (stats : Bool) (status : ℕ) (k : Sinks) → ComesToRun s source cert name arguments budget steps stats status k → status ≢ 13
-run_comes s source cert name arguments budget steps stats status k (ran l h) = ran_apart _ _ _ _ _ status k h.shows
-run_comes s source cert name arguments budget steps stats status k (refused_run a (inl h) shown) = shown_apart a status k (run_apart s source cert name arguments budget a h) shown
-run_comes s source cert name arguments budget steps stats status k (refused_run a (inr h) shown) = shown_apart a status k (outside_apart s a h) shown
+module _ (s : Setting) (source cert name arguments : List ℕ) (budget steps : ℕ) (stats : Bool) (status : ℕ) (k : Sinks) where
+  by_run : (run : Option Entry) → IfSome run (λ e. IsOfRun status) → (run ≡ None → (a : Answer) × HasNoRun s source cert name arguments budget a × Shown a status k) → status ≢ 13
+  by_run (Some e) is refused = ran_apart status is
+  by_run None is refused = let h = refused refl in shown_apart h.0 status k (none_apart s source cert name arguments budget h.0 h.1) h.2
 
--- ---- the command `big`
-
-line_apart : (e : Entry) (functions conditions : ℕ) (wanted : Bool) (steps : ℕ) (a : Answer) → AnswersLarge e functions conditions wanted steps a → Apart a
-line_apart e functions conditions wanted steps a (line_written v output done is) = other 0 a _ is refl no_0
-line_apart e functions conditions wanted steps a (steps_spend output goes is) = other 8 a _ is refl no_8
-
-made_apart : (functions seed : ℕ) (a : Answer) → makes_one functions seed (Err a) → Apart a
-made_apart functions seed a h = other 10 a _ h.1 refl no_10
-
--- a source that is made is accepted and started, or refused
-large_apart : (s : Setting) (functions seed budget : ℕ) (a : Answer) → large_start s functions seed budget stated (Err a) → Apart a
-large_apart s functions seed budget a h =
-    of_steps Apart _ _ (λ b g. made_apart functions seed b g) (λ bytes b g. of_steps Apart _ _ (λ c f. source_apart s large_name no_file budget bytes c f) (λ x c f. starts_apart entry (argument_text seed) x c f) b g) a h
-
-large_comes : (s : Setting) (functions seed budget steps : ℕ) (a : Answer) → ComesToLarge s functions seed budget steps a → Apart a
-large_comes s functions seed budget steps a (ran_large l of h) = line_apart _ _ _ _ _ a h
-large_comes s functions seed budget steps a (refused_large (inl h)) = large_apart s functions seed budget a h
-large_comes s functions seed budget steps a (refused_large (inr h)) = outside_apart s a h
+  run_comes : Headline s source cert name arguments budget steps stats status k → status ≢ 13
+  run_comes h = by_run h.run h.status_is h.refused
 
 -- ---- the command `probe`
 
@@ -276,8 +88,8 @@ found_apart : (bytes : List ℕ) (f : Finding) (a : Answer) → a ≡ found_answ
 found_apart bytes (Faulted number vs kind at) a is = other 12 a _ is refl no_12
 found_apart bytes (Faultless tried met undecided) a is = other 0 a _ is refl no_0
 
-probed_apart : (bytes : List ℕ) (core : Core ℕ) (tuples ticks number : ℕ) (a : Answer) → IsProbed bytes core tuples ticks number (Ok a) → Apart a
-probed_apart bytes core tuples ticks number a h = found_apart bytes h.finding a (answer_is a _ h.answer)
+probed_apart : (bytes : List ℕ) (core : Core ℕ) (tuples ticks entry : ℕ) (a : Answer) → IsProbed bytes core tuples ticks entry (Ok a) → Apart a
+probed_apart bytes core tuples ticks entry a h = found_apart bytes h.finding a (value_is a _ h.answer)
 
 enters_apart : (core : Core ℕ) (name : List ℕ) (a : Answer) → enters core name stated (Err a) → Apart a
 enters_apart core name a h = faulted_apart _ _ (λ f. no_7) a h
@@ -285,14 +97,14 @@ enters_apart core name a h = faulted_apart _ _ (λ f. no_7) a h
 reads_apart : (name bytes : List ℕ) (a : Answer) → reads name bytes stated (Err a) → Apart a
 reads_apart name bytes a h = faulted_apart _ _ (λ f. no_1) a h
 
-probe_good : (s : Setting) (source name : List ℕ) (tuples ticks : ℕ) (a : Answer) → probe_steps s source name tuples ticks stated (Ok a) → Apart a
+pub probe_good : (s : Setting) (source name : List ℕ) (tuples ticks : ℕ) (a : Answer) → probe_steps s source name tuples ticks stated (Ok a) → Apart a
 probe_good s source name tuples ticks a h =
     value_apart _ _ (λ bytes b g. value_apart _ _ (λ p c f. value_apart _ _ (λ entry d e. probed_apart bytes p.core tuples ticks entry d e) c f) b g) a h
 
-probe_bad : (s : Setting) (source name : List ℕ) (tuples ticks : ℕ) (a : Answer) → probe_steps s source name tuples ticks stated (Err a) → Apart a
+pub probe_bad : (s : Setting) (source name : List ℕ) (tuples ticks : ℕ) (a : Answer) → probe_steps s source name tuples ticks stated (Err a) → Apart a
 probe_bad s source name tuples ticks a h =
-    of_steps Apart _ _ (λ b g. alone_apart s source b g) (λ bytes b g. of_steps Apart _ _ (λ c f. reads_apart source bytes c f)
-    (λ p c f. of_steps Apart _ _ (λ d e. enters_apart p.core name d e) (λ entry d e. absurd (no_answer d _ e.answer)) c f) b g) a h
+    of_steps Apart _ _ (λ b g. alone_refused Apart none_is s source b g) (λ bytes b g. of_steps Apart _ _ (λ c f. reads_apart source bytes c f)
+    (λ p c f. of_steps Apart _ _ (λ d e. enters_apart p.core name d e) (λ entry d e. absurd (no_value _ d e.answer)) c f) b g) a h
 
 -- ---- the command `prove`
 
@@ -307,7 +119,7 @@ proof_good : (s : Setting) (source : List ℕ) (budget : ℕ) (a : Answer) → p
 proof_good s source budget a h = value_apart _ _ (λ bytes b g. value_apart _ _ (λ p c f. judged_apart source bytes p budget c f) b g) a h
 
 proof_bad : (s : Setting) (source : List ℕ) (budget : ℕ) (a : Answer) → proves_file s source budget stated (Err a) → Fine a
-proof_bad s source budget a h = of_steps Fine _ _ (λ b g. fine b (alone_apart s source b g)) (λ bytes b g. of_steps Fine _ _ (λ c f. fine c (owes_apart source bytes c f)) (λ p c f. found c f.answer) b g) a h
+proof_bad s source budget a h = of_steps Fine _ _ (λ b g. fine b (alone_refused Apart none_is s source b g)) (λ bytes b g. of_steps Fine _ _ (λ c f. fine c (owes_refused Apart none_is source bytes c f)) (λ p c f. found c f.answer) b g) a h
 
 saved_apart : (name saved : List ℕ) (a : Answer) (v : Saving) (status : ℕ) (k : Sinks) → Apart a → Saves name saved a v status k → status ≢ 13
 saved_apart name saved a v status k apart (saves.whole is shown) = shown_apart a status k apart shown
@@ -329,7 +141,7 @@ proved_fine s source output budget v status k (Err a) (inr h) shown = weak statu
 
 done_fine : (asked : Asked) (s : Setting) (v : Saving) (status : ℕ) (k : Sinks) → Does asked s v status k → IsNeverStuck (Some asked) status k
 done_fine (check source cert budget) s v status k h = answered_apart s (check_steps s source cert budget) (check_good s source cert budget) (check_bad s source cert budget) status k h
-done_fine (run source cert name arguments budget steps stats) s v status k h = run_comes s source cert name arguments budget steps stats status k (runs_right s source cert name arguments budget steps stats status k h).comes
+done_fine (run source cert name arguments budget steps stats) s v status k h = run_comes s source cert name arguments budget steps stats status k (runs_right s source cert name arguments budget steps stats status k h)
 done_fine (prove source output budget) s v status k h = proved_fine s source output budget v status k h.proof h.gives.comes h.shown
 done_fine (conds source) s v status k h = answered_apart s (text_steps s kind_of.Conditions source) (text_good s kind_of.Conditions source) (text_bad s kind_of.Conditions source) status k h
 done_fine (fmt source) s v status k h = answered_apart s (text_steps s kind_of.Layout source) (text_good s kind_of.Layout source) (text_bad s kind_of.Layout source) status k h

@@ -1,9 +1,12 @@
 -- what public contracts cite
-pub mod Sources
+pub mod Headline
+pub mod Accepted
 pub mod Started
 pub mod Runs
-pub mod Commands
+pub mod Large
 pub mod Probes
 pub mod Seen
 pub mod Means
+pub mod Complete
+pub mod Sources
 pub mod due

@@ -6,14 +6,16 @@ use Rattle.wy_top.specs.wy_top_answers.Steps.{Setting}
 use Rattle.wy_top.specs.Saves.{Saving}
 use Rattle.wy_top.specs.Statement.{Comes}
 use Rattle.wy_top_words.specs.CommandLine.{Asked, check, run, prove, conds, fmt, dis, big, probe, command_of}
-use Rattle.wy_headline.specs.Commands.{MeansRun, ShowsLarge}
+use Rattle.wy_headline.specs.Accepted.{MeansCheck}
+use Rattle.wy_headline.specs.Headline.{Headline}
+use Rattle.wy_headline.specs.Large.{ShowsLarge}
 use Rattle.wy_headline.specs.Probes.{MeansProbe}
 use Rattle.wy_headline.specs.Seen.{IsNeverStuck}
 
--- of the commands that run programs, and of the one that looks for faults
+-- of the commands that accept and run programs, and of the one that looks for faults
 abbrev pub MeansAsked : Asked → Setting → ℕ → Sinks → Type 0
-MeansAsked (check source cert budget) s status k = ⊤
-MeansAsked (run source cert name arguments budget steps stats) s status k = MeansRun s source cert name arguments budget steps stats status k
+MeansAsked (check source cert budget) s status k = MeansCheck s source cert budget status k
+MeansAsked (run source cert name arguments budget steps stats) s status k = Headline s source cert name arguments budget steps stats status k
 MeansAsked (prove source output budget) s status k = ⊤
 MeansAsked (conds source) s status k = ⊤
 MeansAsked (fmt source) s status k = ⊤
@@ -25,7 +27,7 @@ abbrev pub MeansIf : Option Asked → Setting → ℕ → Sinks → Type 0
 MeansIf (Some asked) s status k = MeansAsked asked s status k
 MeansIf None s status k = ⊤
 
--- a run that words ask for does what the program does, and a probe tells what faults, want of memory to read them aside; and whatever they ask for, status 13 comes of `prove` alone
+-- what words ask to accept is accepted exactly where it is to be, a run does what the program does, and a probe tells what faults, want of memory to read them aside; and whatever they ask for, status 13 comes of `prove` alone
 pub record Means (words : List (List ℕ)) (s : Setting) (status : ℕ) (k : Sinks) : Type 0 where
   pub asked : MeansIf (command_of words) s status k ⊎ Shown no_memory status k
   pub never : IsNeverStuck (command_of words) status k

@@ -1,22 +1,21 @@
 -- What does a probe show of the program of a source?
-use Rattle.std.specs.Prelude.{◌≡◌, ◌⊎◌, ℕ, List, Ok}
+use Rattle.std.specs.Prelude.{◌≡◌, ◌⊎◌, ℕ, List}
 use Rattle.wy_core.specs.CoreTree.{Core, Routine}
 use Rattle.wy_core.specs.Types.{Ty}
 use Rattle.wy_term.specs.declared.cond.CondKind.{CondKind}
 use Rattle.wy_value.specs.Datum.{Datum}
-use Rattle.wy_top.specs.wy_link_load.Alone.{IsAlone, loads_alone}
+use Rattle.wy_top.specs.wy_link_load.Alone.{IsAlone}
 use Rattle.wy_top.specs.wy_mach_run.Entries.{IsEntry}
 use Rattle.wy_top.specs.wy_probe.Comes.{probe_of}
 use Rattle.wy_top.specs.wy_probe.Trials.{Faulted, FindsFirst}
 use Rattle.wy_top.specs.wy_top_answers.Showing.{ShowsWhole, Sinks}
-use Rattle.wy_top.specs.wy_top_answers.Steps.{IsTold, Setting, due}
+use Rattle.wy_top.specs.wy_top_answers.Steps.{IsTold, Setting}
 use Rattle.wy_top.specs.wy_top_answers.declared.answer.Answer.{Answer}
 use Rattle.wy_top.specs.wy_top_source.Sources.{IsProgram}
 use Rattle.wy_top.specs.Acceptance.{Acceptance}
-use Rattle.wy_top.specs.Exact.{IsElse}
 use Rattle.wy_top.specs.wy_top_probe.Probing.{found_answer, probe_steps}
 use Rattle.wy_top.specs.Statement.{IsAnswered}
-use Rattle.wy_headline.specs.Started.{AcceptsBytes}
+use Rattle.wy_headline.specs.Accepted.{AcceptsBytes, IsCutShort}
 
 -- The bytes are a typed and assigned program with a function or method of this name. One of its first so many tuples, not undecided, meets the precondition, and the value semantics faults on it within so many ticks: this is the first such tuple.
 pub record Faults (bytes name : List ℕ) (tuples ticks : ℕ) : Type 0 where
@@ -48,10 +47,10 @@ pub record FaultsIn (s : Setting) (source name : List ℕ) (tuples ticks : ℕ) 
   pub shown : ShowsWhole (answer_of bytes name tuples ticks faults) status k
   pub never : IsNeverAccepted bytes
 
--- Status 12 comes where the source faults so; and where files are told it is what comes then, its line whole, but for a failed load, a failed sink and want of memory.
+-- Status 12 comes where the source faults so; and where files are told it is what comes then, its line whole, unless it is cut short.
 pub record MeansProbe (s : Setting) (source name : List ℕ) (tuples ticks : ℕ) (status : ℕ) (k : Sinks) : Type 0 where
   pub faults : status ≡ 12 → FaultsIn s source name tuples ticks status k
-  pub is_due : IsTold s → (bytes : List ℕ) → loads_alone s source due (Ok bytes) → (f : Faults bytes name tuples ticks) → ShowsWhole (answer_of bytes name tuples ticks f) status k ⊎ IsElse status
+  pub is_due : IsTold s → (bytes : List ℕ) → IsAlone s source bytes → (f : Faults bytes name tuples ticks) → ShowsWhole (answer_of bytes name tuples ticks f) status k ⊎ IsCutShort s status k
 
 abbrev pub ProbesAreRight : Type 0
 ProbesAreRight = (s : Setting) (source name : List ℕ) (tuples ticks : ℕ) (status : ℕ) (k : Sinks)

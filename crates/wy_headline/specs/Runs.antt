@@ -1,5 +1,5 @@
--- What do the sinks take of a run, said by what the program does?
-use Rattle.std.specs.Prelude.{◌≡◌, ◌⊎◌, ◌++◌, ◌≤◌, ◌+◌, ◌*◌, ℕ, List, Bool, Option}
+-- What does a run do, and what do the sinks take of it, said by the value semantics?
+use Rattle.std.specs.Prelude.{◌≡◌, ◌⊎◌, ◌++◌, ◌≤◌, ◌+◌, ◌*◌, ℕ, List, Bool, Option, is_some}
 use Rattle.wy_top.specs.wy_top_answers.Showing.{Sinks}
 use Rattle.wy_core.specs.CoreTree.{Core, Routine}
 use Rattle.wy_top.specs.wy_eval_exprs.Settings.{here}
@@ -10,7 +10,8 @@ use Rattle.wy_top.specs.wy_mach_run.Running.{Leaves, written}
 use Rattle.wy_sound.specs.wy_sem.Evaluation.{evaluate}
 use Rattle.wy_sound.specs.wy_sem.Meter.{Meter, Done}
 use Rattle.wy_sound.specs.wy_sem.Operations.{or_null}
-use Rattle.wy_top.specs.wy_gen_laws.programs.Programs.{PrintsThat}
+use Rattle.wy_top.specs.wy_gen_laws.programs.Programs.{NoFault, PrintsThat}
+use Rattle.wy_top.specs.wy_mach_run.sound.Results.{Fulfils}
 use Rattle.wy_top.specs.wy_mach_run.sound.Runs.{Gives, GoesOn}
 use Rattle.wy_top.specs.Runs.{TookOf, done_text}
 use Rattle.wy_value.specs.Datum.{Datum}
@@ -22,43 +23,79 @@ pub record Entry : Type 0 where
   pub routine : Routine ℕ
   pub values : List Datum
 
+-- ---- what it does
+
+-- the value semantics is a fault at no number of ticks
+abbrev pub NeverFaults : Entry → Type 0
+NeverFaults e = (ticks : ℕ) → NoFault (evaluate here e.core e.number e.values ticks)
+
+-- what it gives is in the type of the result, and each ensures clause evaluates to true of it and of the arguments as they were
+abbrev pub MeetsPostcondition : Entry → Type 0
+MeetsPostcondition e = (ticks : ℕ) (v : Option Datum) (m : Meter) → evaluate here e.core e.number e.values ticks ≡ Done v m → Fulfils here e.core e.routine e.values v
+
 -- the program is done with this value and output, and its contract holds of them
 abbrev pub IsDone : Entry → Datum → List ℕ → Type 0
 IsDone e v output = Gives here e.core e.number e.routine e.values v output
 
--- the bytes that a run may write: such as the program prints first, from some number of ticks on; or, where it is done, its output, and behind it the text of the result, where one is wanted
-pub data MayWrite (e : Entry) (wanted : Bool) (text : List ℕ) : Type 0 where
-  so_far : PrintsThat here e.core e.number e.values text → MayWrite e wanted text
-  in_all : (v : Datum) (output : List ℕ) → IsDone e v output → text ≡ written wanted output v → MayWrite e wanted text
+-- what it writes that is done so: the output, and behind it the text of the result, where there is one
+abbrev pub wrote : Entry → Datum → List ℕ → List ℕ
+wrote e v output = written (is_some e.routine.result) output v
+
+-- the bytes that a run may write: such as the program prints first, from some number of ticks on; or, where it is done, all that it writes
+pub data MayWrite (e : Entry) (text : List ℕ) : Type 0 where
+  so_far : PrintsThat here e.core e.number e.values text → MayWrite e text
+  in_all : (v : Datum) (output : List ℕ) → IsDone e v output → text ≡ wrote e v output → MayWrite e text
+
+-- ---- what the sinks take
 
 -- a sink took a front of such bytes
-pub record TookOfRun (e : Entry) (wanted : Bool) (before after : Option (List ℕ)) : Type 0 where
+pub record TookOfRun (e : Entry) (before after : Option (List ℕ)) : Type 0 where
   pub text : List ℕ
-  pub may : MayWrite e wanted text
+  pub may : MayWrite e text
   pub took : TookFront before after text
 
--- How a run of so many steps shows itself. The lines come first on err; then the run writes on out.
-pub data ShowsRun (e : Entry) (lines : List ℕ) (wanted asked : Bool) (steps status : ℕ) (k : Sinks) : Type 0 where
-  -- the program is done: out took its output and the text of its result; where it is asked for, err took the line for copies
-  finished : (v : Datum) (output : List ℕ) (copies nodes : ℕ) → status ≡ 0 → IsDone e v output → k.out_after ≡ with_taken k.out_before (written wanted output v)
-      → Leaves copies nodes v → k.err_after ≡ with_taken k.err_before (done_text lines asked copies nodes) → ShowsRun e lines wanted asked steps status k
-  -- it isn't done at any number of ticks for which there were steps enough: out took what was printed
-  spends : (output : List ℕ) → status ≡ 8 → GoesOn here e.core e.number e.values steps output → k.out_after ≡ with_taken k.out_before output
-      → k.err_after ≡ with_taken k.err_before (lines ++ steps_spent) → ShowsRun e lines wanted asked steps status k
-  -- a sink counted a fault: out took a front of what the program may write, and err one of its lines
-  sink_failed : status ≡ 5 → Rose k.out_faults_before k.out_faults_after ⊎ Rose k.err_faults_before k.err_faults_after
-      → TookOfRun e wanted k.out_before k.out_after → TookOf lines k.err_before k.err_after → ShowsRun e lines wanted asked steps status k
-  -- memory ran out: out took a front of what the program may write
-  no_memory : status ≡ 9 → TookOfRun e wanted k.out_before k.out_after → k.err_after ≡ with_taken k.err_before lines → ShowsRun e lines wanted asked steps status k
+-- The program is done: out took its output and the text of its result. These lines come first on err, and then, where it is asked for, the line for copies.
+pub record ShowsResult (e : Entry) (lines : List ℕ) (stats : Bool) (k : Sinks) : Type 0 where
+  pub value : Datum
+  pub output : List ℕ
+  pub done : IsDone e value output
+  pub out : k.out_after ≡ with_taken k.out_before (wrote e value output)
+  pub copies : ℕ
+  pub nodes : ℕ
+  pub left : Leaves copies nodes value
+  pub err : k.err_after ≡ with_taken k.err_before (done_text lines stats copies nodes)
+
+-- it isn't done at any number of ticks for which there were steps enough: out took what was printed
+pub record ShowsSpent (e : Entry) (lines : List ℕ) (steps : ℕ) (k : Sinks) : Type 0 where
+  pub output : List ℕ
+  pub goes : GoesOn here e.core e.number e.values steps output
+  pub out : k.out_after ≡ with_taken k.out_before output
+  pub err : k.err_after ≡ with_taken k.err_before (lines ++ steps_spent)
+
+-- a sink counted a fault: out took a front of what the program may write, and err one of its lines
+pub record ShowsFailed (e : Entry) (lines : List ℕ) (k : Sinks) : Type 0 where
+  pub rose : Rose k.out_faults_before k.out_faults_after ⊎ Rose k.err_faults_before k.err_faults_after
+  pub out : TookOfRun e k.out_before k.out_after
+  pub err : TookOf lines k.err_before k.err_after
+
+-- memory ran out: out took a front of what the program may write
+pub record ShowsCutOff (e : Entry) (lines : List ℕ) (k : Sinks) : Type 0 where
+  pub out : TookOfRun e k.out_before k.out_after
+  pub err : k.err_after ≡ with_taken k.err_before lines
 
 -- ---- steps enough
 
--- the run is done: out took the output and, where it is wanted, the text of the result
-pub record EndsDone (wanted : Bool) (v : Datum) (output : List ℕ) (status : ℕ) (k : Sinks) : Type 0 where
-  pub done : status ≡ 0
-  pub out : k.out_after ≡ with_taken k.out_before (written wanted output v)
+-- with so many ticks the program is done, and there are 16 steps for each that it spent and 16 more
+pub record IsDoneWithin (e : Entry) (steps : ℕ) (v : Datum) (output : List ℕ) : Type 0 where
+  pub spent : ℕ
+  pub value : Option Datum
+  pub meter : Meter
+  pub done : evaluate here e.core e.number e.values (meter.ticks + spent) ≡ Done value meter
+  pub enough : 16 * spent + 16 ≤ steps
+  pub is : or_null value ≡ v
+  pub same : meter.output ≡ output
 
--- where the program is done, having spent so many ticks, and there are 16 steps for each of them and 16 more, the run is done so, but for a fault of a sink and want of memory
-abbrev pub EnoughStepsEnd : Type 0
-EnoughStepsEnd = (e : Entry) (lines : List ℕ) (wanted asked : Bool) (steps status : ℕ) (k : Sinks) → ShowsRun e lines wanted asked steps status k
-    → (spent : ℕ) (v : Option Datum) (m : Meter) → evaluate here e.core e.number e.values (m.ticks + spent) ≡ Done v m → 16 * spent + 16 ≤ steps → EndsDone wanted (or_null v) m.output status k ⊎ ((status ≡ 5) ⊎ (status ≡ 9))
+-- the run is done: out took all that it writes
+pub record EndsDone (e : Entry) (v : Datum) (output : List ℕ) (status : ℕ) (k : Sinks) : Type 0 where
+  pub done : status ≡ 0
+  pub out : k.out_after ≡ with_taken k.out_before (wrote e v output)

@@ -1,17 +1,18 @@
 //! What is known of accepted programs and of their code.
 ghost use Rattle.wy_headline.specs.Sources.{AcceptedSourcesRunRightly, ShownProgramsRunRightly, SourcesAreShown};
 
-/// The typed and assigned program of a source, of which every condition is true, is such as the laws of soundness and of code ask
-/// for.
+/// The typed and assigned program of a source, of which every condition is true, is such as the laws of soundness and
+/// of code ask for.
 pub fn sources_are_shown()
     ensures shown { SourcesAreShown }
 {}
 
-/// Such a program, with the code that is made of it, from any function or method on values that meet it: the run never lacks a step.
-/// Behind any number of steps it has ended with a value and an output of the program, and its contract holds of these; or it goes
-/// on, the program isn't done at any number of ticks for which there were steps enough, 16 for each and 16 more, and what was
-/// printed lies between what the program prints at these numbers of ticks and what it prints from some number of ticks on. Where
-/// the program is done, the run ends so within 16 steps for each tick that was spent and 16 more.
+/// Such a program, with the code that is made of it, from any function or method on values that meet it: the run
+/// never lacks a step. Behind any number of steps it has ended with a value and an output of the program, and its
+/// contract holds of these; or it goes on, the program isn't done at any number of ticks for which there were steps
+/// enough, 16 for each and 16 more, and what was printed lies between what the program prints at these numbers of
+/// ticks and what it prints from some number of ticks on. Where the program is done, the run ends so within 16 steps
+/// for each tick that was spent and 16 more.
 pub fn shown_programs_run_rightly()
     ensures rightly { ShownProgramsRunRightly }
 {}

@@ -2,6 +2,7 @@
 ghost use Rattle.std.specs.Prelude.{◌≡◌, ℕ, List};
 ghost use Rattle.wy_top.specs.wy_top_answers.Showing.{sinks};
 ghost use Rattle.wy_top.specs.wy_top_answers.Steps.{setting};
+ghost use Rattle.wy_headline.specs.Complete.{IsComplete};
 ghost use Rattle.wy_headline.specs.Means.{Means};
 ghost use Rattle.wy_top.specs.Saves.{saving};
 ghost use Rattle.wy_top.specs.Statement.{Comes, IsKeptBy, saved_name};
@@ -12,9 +13,9 @@ use std::alloc::Global;
 use std::thread::Threads;
 use wy_port::{Files, Sink};
 
-/// Does what `words` say, over `files`, and answers the exit status: `run_words` of wy_top, with its promises. That asks that runs
-/// of accepted programs never lack a step, which they don't by the laws of soundness and of code. What it says of runs by the
-/// steps of the code is said here by the value semantics too.
+/// Does what `words` say, over `files`, and answers the exit status: `run_words` of wy_top, with its promises. That
+/// asks that runs of accepted programs never lack a step, which they don't by the laws of soundness and of code. What
+/// it says of runs by the steps of the code is said here by the value semantics too.
 pub fn run_words<R: Threads + Sync, F: Files, O: Sink, E: Sink>(
     rt: &R,
     alloc: Global,
@@ -30,10 +31,20 @@ pub fn run_words<R: Threads + Sync, F: Files, O: Sink, E: Sink>(
         result
         (sinks (O.taken out.old) (O.taken out.new) (O.faults out.old) (O.faults out.new) (E.taken err.old) (E.taken err.new) (E.faults err.old) (E.faults err.new)) }
 
-    // An accepted program runs as the value semantics says, and its contract holds of what it gives. A fault that a probe tells is one
-    // of the value semantics, and never of an accepted program. Status 13 comes of `prove` alone.
+    // The headline: a program is accepted exactly where it is typed and assigned and its conditions have
+    // certificates, a run starts exactly where the arguments meet, it never faults, and does what the value semantics
+    // says, and its contract holds. A fault that a probe tells is one of the value semantics, and never of an
+    // accepted program. Status 13 comes of `prove` alone.
     ensures means { Means (words_in words.now)
         (setting (F.told files.old) (F.load_faults files.old) (F.load_faults files.new) (F.misses files.old) (F.misses files.new))
+        result
+        (sinks (O.taken out.old) (O.taken out.new) (O.faults out.old) (O.faults out.new) (E.taken err.old) (E.taken err.new) (E.faults err.old) (E.faults err.new)) }
+
+    // Where no count of faults rose, what the words ask for is done, its status and its bytes whole, or memory ran
+    // out (9). A run of a program that is done within its steps has status 0 then.
+    ensures complete { IsComplete (words_in words.now)
+        (setting (F.told files.old) (F.load_faults files.old) (F.load_faults files.new) (F.misses files.old) (F.misses files.new))
+        (saving (F.told files.old (saved_name (command_of (words_in words.now)))) (F.told files.new (saved_name (command_of (words_in words.now)))) (F.save_faults files.old) (F.save_faults files.new))
         result
         (sinks (O.taken out.old) (O.taken out.new) (O.faults out.old) (O.faults out.new) (E.taken err.old) (E.taken err.new) (E.faults err.old) (E.faults err.new)) }
 

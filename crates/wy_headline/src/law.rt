@@ -1,25 +1,33 @@
 //! What is known of the commands that run programs, and of the one that looks for faults.
-ghost use Rattle.wy_headline.specs.Commands.{LargeRunsAreRight, RunsAreRight};
+ghost use Rattle.wy_headline.specs.Accepted.{AcceptedIsTrue, ChecksAreRight};
+ghost use Rattle.wy_headline.specs.Complete.{CallsAreComplete};
+ghost use Rattle.wy_headline.specs.Headline.{RunsAreRight};
+ghost use Rattle.wy_headline.specs.Large.{LargeRunsAreRight};
 ghost use Rattle.wy_headline.specs.Means.{CallsMean};
 ghost use Rattle.wy_headline.specs.Probes.{ProbesAreRight};
-ghost use Rattle.wy_headline.specs.Runs.{EnoughStepsEnd};
 ghost use Rattle.wy_headline.specs.Seen.{NeverSticks};
 
-/// The command `run`. Either there is no run, and the answer of why is shown; or the source is a typed and assigned program, of
-/// each of its conditions a valid certificate was supplied, or the search closes it within the budget, and it is true, and the
-/// words name an entry and spell arguments that meet it. Then the status is 0 where the program is done on them, with its output and the text of its value on out, and its
-/// contract holds of these; 8 where the steps are spent, and the program isn't done at any number of ticks for which they were
-/// enough; 5 where a sink counted a fault, and 9 for want of memory, with fronts of what the program prints. There is no other.
-/// Where files are told, a run that is due is one that comes, but for failed loads (4), failed sinks (5), want of memory (9) and
-/// status 13, which `the_machine_never_sticks` rules out.
-pub fn runs_are_right()
-    ensures right { RunsAreRight }
+/// All conditions of a program that is accepted are true.
+pub fn accepted_conditions_are_true()
+    ensures hold { AcceptedIsTrue }
 {}
 
-/// Where the program is done, having spent so many ticks, and there are 16 steps for each of them and 16 more, the status of its
-/// run is 0, and out took its output and the text of its value; or a sink counted a fault (5), or memory ran out (9).
-pub fn enough_steps_end_the_run()
-    ensures end { EnoughStepsEnd }
+/// The command `check`. Status 0 comes only where the program is accepted, with the line that says so. Where files
+/// are told and it is accepted, that is what comes, but for a failed load (4) and a failed sink (5), each of them
+/// counted, and want of memory (9).
+pub fn checks_are_right()
+    ensures right { ChecksAreRight }
+{}
+
+/// The command `run`: the headline, part by part. The program is accepted exactly where it is typed, assigned and
+/// within the limits, and of each of its conditions a valid certificate is supplied, or the search closes it within
+/// the budget. A run starts exactly where the words name an entry and spell arguments that meet it; else the answer
+/// of why is shown. It never faults, and what the program gives meets its contract. The status is 0 where the program
+/// is done, with its output and the text of its value on out; 8 where the steps are spent, and the program isn't done
+/// at any number of ticks for which they were enough; 5 where a sink counted a fault, and 9 for want of memory, with
+/// fronts of what the program prints. There is no other.
+pub fn runs_are_right()
+    ensures right { RunsAreRight }
 {}
 
 /// The command `big`: likewise of the source that it makes, with its one line.
@@ -27,11 +35,11 @@ pub fn big_runs_are_right()
     ensures right { LargeRunsAreRight }
 {}
 
-/// The command `probe`. Status 12 comes only where the source is a typed and assigned program in which the words name a function
-/// or method, and one of its first so many tuples of arguments, not undecided, meets the precondition, and the value semantics
-/// faults on it within so many ticks; the line is that of the first such tuple. Such a program is accepted with no certificates
-/// and no budget. Where files are told, the line and the status come wherever a tuple faults so, but for a failed load (4), a failed
-/// sink (5) and want of memory (9).
+/// The command `probe`. Status 12 comes only where the source is a typed and assigned program in which the words name
+/// a function or method, and one of its first so many tuples of arguments, not undecided, meets the precondition, and
+/// the value semantics faults on it within so many ticks; the line is that of the first such tuple. Such a program is
+/// accepted with no certificates and no budget. Where files are told, the line and the status come wherever a tuple
+/// faults so, but for a failed load (4), a failed sink (5) and want of memory (9).
 pub fn probes_are_right()
     ensures right { ProbesAreRight }
 {}
@@ -45,4 +53,10 @@ pub fn the_machine_never_sticks()
 /// What the clause of `run_words` says by the steps of the code means all of this.
 pub fn calls_mean_what_programs_do()
     ensures mean { CallsMean }
+{}
+
+/// And each such call is complete: where no count of faults rose, what the words ask for is done, its status and its bytes
+/// whole, or memory ran out.
+pub fn calls_are_complete()
+    ensures complete { CallsAreComplete }
 {}

@@ -1,4 +1,4 @@
-use Rattle.wy_headline.proofs.CommandLemmas.{large_right}
+use Rattle.wy_headline.proofs.LargeLemmas.{large_right}
 use Rattle.wy_headline.proofs.law.big_runs_are_right.Goals as goal
 
 pub returns : goal.returns

@@ -1,4 +1,4 @@
-use Rattle.wy_headline.proofs.CommandLemmas.{runs_right}
+use Rattle.wy_headline.proofs.HeadlineLemmas.{runs_right}
 use Rattle.wy_headline.proofs.law.runs_are_right.Goals as goal
 
 pub returns : goal.returns
