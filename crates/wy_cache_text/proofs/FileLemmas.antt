@@ -1,5 +1,5 @@
 -- Cache files: there is one reading.
-use Rattle.std.proofs.Common.{◌≡◌, ◌≢◌, ℕ, ◌+◌, ◌<◌, ◌≤◌, List, [], ◌∷◌, ◌++◌, codes, map, refl, sym, ap, ◌∙◌, subst, arith}
+use Rattle.std.proofs.Common.{◌≡◌, ◌≢◌, ℕ, ◌+◌, ◌<◌, ◌≤◌, List, [], ◌∷◌, ◌++◌, codes, refl, sym, ap, ◌∙◌, subst, arith}
 use Rattle.std.specs.Fmt.{decimal}
 use Rattle.wy_data.proofs.wy_lemmas_proofs.Lists.{append_cancel, append_mid, none_behind, map_pushed}
 use Rattle.wy_data.specs.scan.Front.{IsBehind, NotBehind}

@@ -1,12 +1,12 @@
 -- Whole lines of a text: there is one way to take them.
-use Rattle.std.proofs.Common.{◌≡◌, ℕ, zero, suc, ◌+◌, ◌-◌, ◌<◌, ◌≤◌, List, [], ◌∷◌, ◌++◌, length, take, drop, get_or, Bool, true, false, refl, sym, ap, ◌∙◌, subst, arith, add-one}
+use Rattle.std.proofs.Common.{◌≡◌, ℕ, zero, suc, ◌+◌, ◌-◌, ◌<◌, ◌≤◌, List, [], ◌∷◌, ◌++◌, length, take, drop, get_or, false, refl, sym, ap, ◌∙◌, subst, arith, add-one}
 use Rattle.std.specs.Prelude.{not, ◌==◌}
 use Rattle.std.proofs.lemmas.List.{take-append-drop, take_all, length-append}
 use Rattle.wy_data.proofs.wy_lemmas_proofs.Choices.{unlike}
 use Rattle.wy_data.specs.scan.Front.{AllPass}
 use Rattle.wy_data.proofs.scan_lemmas.RunLemmas.{run_same}
 use Rattle.wy_data.proofs.scan_lemmas.FrontLemmas.{pass_more}
-use Rattle.wy_cache_text.specs.Lines.{is_inside, NoLine, IsLineAt, AreInside, lines_text, AreLines, AreLinesAt, NoLines}
+use Rattle.wy_cache_text.specs.Lines.{is_inside, NoLine, IsLineAt, AreInside, lines_text, AreLinesAt, NoLines}
 
 -- ---- lists
 
@@ -64,7 +64,7 @@ pub record OneLot (f g r s : List ℕ) : Type 0 where
 pub one_lot : (count : ℕ) (text f g r s : List ℕ) → AreLinesAt count text f r → AreLinesAt count text g s → OneLot f g r s
 one_lot count text f g r s a b =
     let k = same_lines a.lines.lines b.lines.lines r s (a.lines.many ∙ sym b.lines.many) a.lines.inside b.lines.inside
-          (ap (λ (i : List ℕ). i ++ r) (sym a.lines.is) ∙ sym a.is ∙ b.is ∙ ap (λ (i : List ℕ). i ++ s) b.lines.is) in
+    (ap (λ (i : List ℕ). i ++ r) (sym a.lines.is) ∙ sym a.is ∙ b.is ∙ ap (λ (i : List ℕ). i ++ s) b.lines.is) in
     record { front = a.lines.is ∙ ap lines_text k.lines ∙ sym b.lines.is; rest = k.rest }
 
 -- where no line is left behind fewer lines, there are no more
@@ -79,7 +79,7 @@ none_left (l ∷ ls) (m ∷ ms) r s less a b none e =
 pub no_more_lines : (done count : ℕ) (text front rest : List ℕ) → done < count → AreLinesAt done text front rest → NoLine rest → NoLines count text
 no_more_lines done count text front rest less so_far none g s b =
     none_left so_far.lines.lines b.lines.lines rest s (omega (arith, less, so_far.lines.many, b.lines.many)) so_far.lines.inside b.lines.inside none
-        (ap (λ (i : List ℕ). i ++ rest) (sym so_far.lines.is) ∙ sym so_far.is ∙ b.is ∙ ap (λ (i : List ℕ). i ++ s) b.lines.is)
+    (ap (λ (i : List ℕ). i ++ rest) (sym so_far.lines.is) ∙ sym so_far.is ∙ b.is ∙ ap (λ (i : List ℕ). i ++ s) b.lines.is)
 
 -- ---- one line more
 

@@ -15,7 +15,11 @@ const MOST: u128 = 16_777_216;
 
 // The number that stands on the first line behind this word, and what follows the line.
 #[tactic(auto, using(crate::proofs::FileLemmas::count_steps))]
-fn count<'a>(alloc: Global, text: &'a [u8], word: &[u8]) -> Result<Option<(u64, &'a [u8])>, NoMemory>
+fn count<'a>(
+    alloc: Global,
+    text: &'a [u8],
+    word: &[u8],
+) -> Result<Option<(u64, &'a [u8])>, NoMemory>
     ensures value { IfOk result (λ o. MatchOption o (NoCount word.now text.now) (λ p. IsCountAt word.now text.now p.0 p.1.now)) }
 {
     let Some(digits) = behind(text, word) else {

@@ -1,4 +1,3 @@
-use Rattle.std.proofs.Common.{◌<◌, rules}
 use Rattle.wy_cache_text.proofs.LineLemmas.{no_more_lines, one_line_more}
 use Rattle.wy_cache_text.proofs.line.lines.Goals as goal
 

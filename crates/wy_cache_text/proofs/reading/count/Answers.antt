@@ -1,6 +1,6 @@
-use Rattle.std.proofs.Common.{rules, ◌≡◌, ◌<◌, ◌≤◌, List, [], ◌∷◌, arith}
+use Rattle.std.proofs.Common.{rules, ◌<◌}
 use Rattle.wy_data.specs.scan.Numbers.{IsNaturalAt, NoNatural}
-use Rattle.wy_cache_text.specs.Files.{IsCountAt, NoCount, most}
+use Rattle.wy_cache_text.specs.Files.{most}
 use Rattle.wy_cache_text.proofs.FileLemmas.{count_no_number, count_no_end, count_large}
 use Rattle.wy_cache_text.proofs.reading.count.Goals as goal
 
