@@ -2,3 +2,7 @@
 pub mod Lines
 pub mod Files
 pub mod Seen
+pub mod Found
+pub mod Written
+-- what functions inside owe each other
+pub mod SoFar
