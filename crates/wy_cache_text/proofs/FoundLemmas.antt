@@ -1,14 +1,12 @@
 -- The table of entries, from the last on, and sets of keys.
-use Rattle.std.proofs.Common.{◌≡◌, ◌+◌, ◌<◌, ℕ, suc, List, [], ◌∷◌, Bool, true, false, cond, Bor, Option, Some, None, map, drop, length, get_or, bytes_eq, refl, sym, ap, subst, ◌∙◌, ⊎_elim, arith}
-use Rattle.std.specs.Cmp.Lexicographic.{bytes_decides, nat_list_eq_equiv}
+use Rattle.std.proofs.Common.{◌≡◌, ◌+◌, ◌<◌, ℕ, List, ◌∷◌, Bool, true, false, cond, Bor, Option, Some, drop, length, get_or, bytes_eq, refl, sym, ap, ◌∙◌}
 use Rattle.std.specs.HashMap.{HashMap, UpdatesBy, get_by}
 use Rattle.std.specs.Option.{option_map}
 use Rattle.std.proofs.lemmas.Map.Text.{hash_map_updates_str}
 use Rattle.std.proofs.lemmas.List.{drop_more}
 use Rattle.wy_cache_text.specs.declared.entry.Entry.{Entry}
-use Rattle.wy_cache_text.specs.Files.{Entries}
 use Rattle.wy_cache_text.specs.Found.{steps_for}
-use Rattle.wy_cache_text.specs.Seen.{held, all_held}
+use Rattle.wy_cache_text.specs.Seen.{all_held}
 
 abbrev bytes_now : Bor (List ℕ) → List ℕ
 bytes_now s = s.now

@@ -1,3 +1,4 @@
 pub mod LineLemmas
 pub mod FileLemmas
 pub mod FoundLemmas
+pub mod WrittenLemmas

@@ -69,9 +69,12 @@ impl Writer {
     /// Writes an entry, unless one with its key was given before, or it does not fit, or another didn't. It takes expected
     /// time linear in the entry.
     pub fn put(&mut self, row: Row<'_>) -> Result<(), NoMemory>
-        ensures value { (rows : List written.Row) → IsSoFar rows self.old → OnOk result (IsSoFar (rows ++ seen_row row ∷ []) self.new) }
+        ensures value { (rows : List written.Row) → IsSoFar rows self.old → OnOk result (IsSoFar (rows ++ seen_row row.entry ∷ []) self.new) }
     {
-        if self.full || self.keys.contains(row.key.as_slice()) {
+        if self.full {
+            return Ok(());
+        }
+        if self.keys.contains(row.key.as_slice()) {
             return Ok(());
         }
         let text = entry_text(*self.out.allocator(), &row)?;

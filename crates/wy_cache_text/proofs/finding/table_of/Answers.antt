@@ -1,4 +1,4 @@
-use Rattle.std.proofs.Common.{rules, arith, ◌≡◌, ◌-◌, ◌+◌, ◌<◌, length}
+use Rattle.std.proofs.Common.{arith, ◌-◌}
 use Rattle.wy_cache_text.proofs.FoundLemmas.{found_next}
 use Rattle.wy_cache_text.proofs.finding.table_of.Goals as goal
 
