@@ -14,15 +14,10 @@ use Rattle.wy_check.specs.wy_vc_laws.wy_check_spec.valid.Validity.{IsValid}
 use Rattle.wy_cache_text.specs.Files.{Entries}
 use Rattle.wy_cache_text.specs.Found.{steps_for}
 use Rattle.wy_cache.specs.Key.{key_of}
+use Rattle.wy_cache.specs.Small.{IsSmall}
 use Rattle.wy_cache.specs.Kept.{file_with, IsSteps, IsKept, IsRow, kept, not_kept, AreKept}
 
 -- ---- a file for one condition
-
--- no certificate, or one for condition 1
-abbrev pub IsSmall : Certificates → Type 0
-IsSmall [] = Unit {0}
-IsSmall (c ∷ []) = c.0 ≡ 1
-IsSmall (c ∷ d ∷ ds) = ⊥
 
 pushed : (done : Certificates) (c : ℕ) (steps : List Written) → IsSmall done → is_listed done c ≡ false → 0 < c → c ≤ 1 → IsSmall (done ++ (c, steps) ∷ [])
 pushed [] c steps small apart some le = omega (arith, some, le)

@@ -4,3 +4,5 @@ pub mod Kept
 pub mod Cached
 -- what functions inside owe each other
 pub mod Shown
+pub mod Small
+pub mod Standing

@@ -12,7 +12,7 @@ ghost use Rattle.wy_cache_text.specs.Found.{IsTable};
 ghost use Rattle.wy_cache_text.specs.Seen.{all_held};
 ghost use Rattle.wy_cache.specs.Kept.{IsSteps, IsKept, AreKept};
 ghost use Rattle.wy_cache.specs.Shown.{AreShown};
-ghost use Rattle.wy_cache.proofs.KeptLemmas.{IsSmall};
+ghost use Rattle.wy_cache.specs.Small.{IsSmall};
 
 use crate::keys::{Shown, key, nothing_shown};
 use std::alloc::Global;

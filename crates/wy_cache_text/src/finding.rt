@@ -6,9 +6,8 @@ ghost use Rattle.wy_cache_text.specs.Found.{steps_for, IsTable};
 ghost use Rattle.wy_cache_text.specs.Seen.{all_held};
 
 use crate::entry::Cache;
-use std::alloc::Global;
+use std::alloc::{AllocError, Global};
 use std::collections::HashMap;
-use wy_items::NoMemory;
 
 /// The steps of the first entry with each key, found by a digest of the key.
 #[derive(Drop)]
@@ -17,7 +16,7 @@ pub struct Table<'a> {
 }
 
 /// The table of a cache, in expected time linear in its keys. It borrows keys and steps.
-pub fn table_of(alloc: Global, cache: &Cache) -> Result<Table<'_>, NoMemory>
+pub fn table_of(alloc: Global, cache: &Cache) -> Result<Table<'_>, AllocError>
     ensures value { IfOk result (IsTable (all_held cache.now.entries.items)) }
 {
     let mut steps = HashMap::new(alloc);

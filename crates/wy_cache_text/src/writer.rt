@@ -5,9 +5,8 @@ ghost use Rattle.wy_cache_text.specs.Written as written;
 ghost use Rattle.wy_cache_text.specs.Written.{row_text, IsLongest};
 ghost use Rattle.wy_cache_text.specs.SoFar.{seen_row, IsSoFar};
 
-use std::alloc::Global;
+use std::alloc::{AllocError, Global};
 use std::collections::HashSet;
-use wy_items::NoMemory;
 
 /// The most bytes of a cache file, without the last line.
 const LIMIT: usize = 16_777_212;
@@ -34,7 +33,7 @@ pub struct Writer {
 }
 
 // An entry as it is written.
-fn entry_text(alloc: Global, row: &Row<'_>) -> Result<Vec<u8>, NoMemory>
+fn entry_text(alloc: Global, row: &Row<'_>) -> Result<Vec<u8>, AllocError>
     ensures value { IfOk result (λ text. text.items ≡ row_text (seen_row row.now)) }
 {
     let (hypotheses, number) = (row.hypotheses, row.number);
@@ -49,7 +48,7 @@ fn entry_text(alloc: Global, row: &Row<'_>) -> Result<Vec<u8>, NoMemory>
 
 impl Writer {
     /// A file without entries.
-    pub fn new(alloc: Global) -> Result<Writer, NoMemory>
+    pub fn new(alloc: Global) -> Result<Writer, AllocError>
         ensures value { IfOk result (IsSoFar []) }
     {
         Ok(Writer {
@@ -68,7 +67,7 @@ impl Writer {
 
     /// Writes an entry, unless one with its key was given before, or it does not fit, or another didn't. It takes expected
     /// time linear in the entry.
-    pub fn put(&mut self, row: Row<'_>) -> Result<(), NoMemory>
+    pub fn put(&mut self, row: Row<'_>) -> Result<(), AllocError>
         ensures value { (rows : List written.Row) → IsSoFar rows self.old → OnOk result (IsSoFar (rows ++ seen_row row.entry ∷ []) self.new) }
     {
         if self.full {
@@ -88,7 +87,7 @@ impl Writer {
     }
 
     /// The bytes of the file.
-    pub fn finish(self) -> Result<Vec<u8>, NoMemory>
+    pub fn finish(self) -> Result<Vec<u8>, AllocError>
         ensures value { (rows : List written.Row) → IsSoFar rows self → IfOk result (λ bytes. IsLongest rows bytes.items) }
     {
         let Writer {
