@@ -1,15 +1,22 @@
 -- What a cache shows, and nothing else.
-use Rattle.std.proofs.Common.{◌≡◌, ◌≢◌, ℕ, ◌+◌, ◌<◌, ◌≤◌, List, [], ◌∷◌, ◌++◌, Bool, true, false, codes, length, drop, map, Option, Some, None, Result, Ok, Err, refl, sym, ap, subst, ◌∙◌, arith, append_assoc}
+use Rattle.std.proofs.Common.{◌≡◌, ◌≢◌, ◌↔◌, All, MatchOption, ℕ, ◌+◌, ◌<◌, ◌≤◌, List, [], ◌∷◌, ◌++◌, Bool, true, false, codes, length, drop, get_or, map, zero, suc, Option, Some, None, Result, Ok, Err, refl, sym, ap, subst, ◌∙◌, arith, append_assoc}
 use Rattle.std.specs.Option.{option_map}
+use Rattle.std.proofs.lemmas.List.{length-map}
 use Rattle.wy_term_text.proofs.wy_lemmas_proofs.Choices.{unlike, same_to, or_left}
-use Rattle.wy_term_text.proofs.wy_lemmas_proofs.Lists.{append_mid, none_behind}
-use Rattle.wy_term.specs.Condition.{Condition}
+use Rattle.wy_term_text.proofs.wy_lemmas_proofs.Lists.{append_mid, none_behind, first_of, rest_of, drop_end}
+use Rattle.wy_term.specs.declared.cond.Cond.{Cond}
+use Rattle.wy_term.specs.Condition.{Condition, condition_of}
+use Rattle.wy_term.specs.Nodes.{Plain, tree_at}
 use Rattle.wy_cert.specs.declared.fault.CertFault.{CertFault}
 use Rattle.wy_cert.specs.declared.step.Cert.{Cert}
 use Rattle.wy_cert.specs.Only.{IsTheOne, HasNone, GoesOn, IsBehind}
 use Rattle.wy_cert.specs.Steps.{Written, Certificates, steps_of}
 use Rattle.wy_cert.specs.File.{ReadsFile, ReadsCerts, ends_early, complete, goes_behind_end, outside, twice, absent, bad_tree, goes_on, first, second, no_header, is_listed}
+use Rattle.wy_check.specs.declared.checking.Checked.{Checked}
+use Rattle.wy_check.specs.declared.checking.Checked.TheVariants.{Yes, No}
 use Rattle.wy_check.specs.Verdicts.{certificate_for}
+use Rattle.wy_check.specs.Within.{IsWithin}
+use Rattle.wy_check.proofs.StayLemmas.{as_before, condition_stays}
 use Rattle.wy_check.specs.wy_vc_laws.wy_check_spec.valid.Validity.{IsValid}
 use Rattle.wy_cache_text.specs.Files.{Entries}
 use Rattle.wy_cache_text.specs.Found.{steps_for}
@@ -159,3 +166,51 @@ module _ (es : Entries) (whole : Certificates → Type 0) where
 
 pub no_turn : (whole : Certificates → Type 0) → GoesOn [] whole whole
 no_turn whole = record { to = λ others h. h; back = λ all h. record { others = all; is = refl; holds = h } }
+
+-- ---- for functions inside
+
+-- the last of a list has what all have
+pub last_has : {X : Type 0} (P : X → Type 0) (xs all : List X) (x : X) → all ≡ xs ++ x ∷ [] → All P all → P x
+last_has P [] all x is has = first_of P x [] (subst (All P) is has)
+last_has P (y ∷ ys) all x is has = last_has P ys (ys ++ x ∷ []) x refl (rest_of P y (ys ++ x ∷ []) (subst (All P) is has))
+
+-- what `only` gives
+pub by_only : (lines bytes : List ℕ) (cs : Certificates) (r : Option Cert) → bytes ≡ file_with lines → IsTheOne (ReadsFile 1 bytes) (Ok cs) → option_map steps_of r ≡ certificate_for cs 1
+    → MatchOption r (HasNone (IsSteps lines)) (λ cert. IsTheOne (IsSteps lines) (steps_of cert))
+by_only lines bytes cs None is read e = steps_nowhere lines bytes cs is read (sym e)
+by_only lines bytes cs (Some cert) is read e = steps_here lines bytes cs (steps_of cert) is read (sym e)
+
+-- a certificate that isn't valid
+pub no_certificate : (es : Entries) (c : Condition) (steps : List Written) (a : Checked) (step : ℕ) → a ≡ No step → (a ≡ Yes) ↔ IsValid c steps → ((IsValid c steps → ⊥) → HasNone (IsKept es c)) → HasNone (IsKept es c)
+no_certificate es c steps a step is valid so = so (λ good. let yes = valid.1 good in absurd cc)
+
+-- ---- the condition at a place
+
+drop_mapped_suc : {A B : Type 0} (f : A → B) (xs : List A) (i : ℕ) (x : A) → i < length xs → x ≡ get_or xs i x → drop i (map f xs) ≡ f x ∷ drop (suc i) (map f xs)
+drop_mapped_suc f [] i x lt at = absurd (omega (arith, lt))
+drop_mapped_suc f (y ∷ ys) zero x lt at = ap (λ z. f z ∷ map f ys) (sym at)
+drop_mapped_suc f (y ∷ ys) (suc i) x lt at = drop_mapped_suc f ys i x (omega (arith, lt)) at
+
+pub drop_mapped : {A B : Type 0} (f : A → B) (xs : List A) (i : ℕ) (x : A) → i < length xs → x ≡ get_or xs i x → drop i (map f xs) ≡ f x ∷ drop (i + 1) (map f xs)
+drop_mapped f xs i x lt at = let next : suc i ≡ i + 1 = omega arith in drop_mapped_suc f xs i x lt at ∙ ap (λ (j : ℕ). f x ∷ drop j (map f xs)) next
+
+pub none_dropped : {A B : Type 0} (f : A → B) (xs : List A) (i : ℕ) → length xs ≤ i → drop i (map f xs) ≡ []
+none_dropped f xs i le = drop_end (map f xs) i (let same = length-map xs f in omega (arith, le, same))
+
+pub within_at : (n : ℕ) (conds : List Cond) (i : ℕ) (cond : Cond) → All (IsWithin n) conds → i < length conds → cond ≡ get_or conds i cond → IsWithin n cond
+within_at n conds i cond all lt at = subst (IsWithin n) (sym at) (all i cond lt)
+
+-- a condition is the same where the terms are as before
+pub same_condition : (old now : List Plain) (cond : Cond) → length now ≡ length old → ((t : ℕ) → t < length old → tree_at now t ≡ tree_at old t) → IsWithin (length old) cond → condition_of now cond ≡ condition_of old cond
+same_condition old now cond same kept_terms within = condition_stays old now cond (as_before old now same kept_terms) within
+
+-- ---- what `kept_one` answers
+
+abbrev pub Answered : Entries → Condition → Option Cert → Type 0
+Answered es c o = MatchOption o (HasNone (IsKept es c)) (λ cert. IsTheOne (IsKept es c) (steps_of cert))
+
+pub kept_value : (es : Entries) (c : Condition) (o : Option Cert) (cert : Cert) → o ≡ Some cert → Answered es c o → IsTheOne (IsKept es c) (steps_of cert)
+kept_value es c o cert is h = subst (Answered es c) is h
+
+pub kept_none : (es : Entries) (c : Condition) (o : Option Cert) → o ≡ None → Answered es c o → HasNone (IsKept es c)
+kept_none es c o is h = subst (Answered es c) is h

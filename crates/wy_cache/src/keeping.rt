@@ -1,5 +1,5 @@
 //! What a cache shows.
-ghost use Rattle.std.specs.Prelude.{◌≡◌, ◌<◌, ℕ, [], All, length, map, IfOk, OnOk, IfSome, MatchOption};
+ghost use Rattle.std.specs.Prelude.{◌≡◌, ◌<◌, ◌↔◌, ℕ, [], All, IsTrue, length, map, IfOk, OnOk, IfSome, MatchOption};
 ghost use Rattle.std.specs.Option.{option_map};
 ghost use Rattle.wy_term.specs.Nodes.{tree_at};
 ghost use Rattle.wy_term.specs.Condition.{condition_of};
@@ -34,6 +34,13 @@ fn only(certs: Certs) -> Option<Cert>
     }
 }
 
+// Whether there was no memory for certificates.
+fn lacks_memory(fault: CertFault) -> bool
+    ensures value { IsTrue result ↔ (fault ≡ CertFault.NoMemory) }
+{
+    matches!(fault, CertFault::NoMemory)
+}
+
 // The certificate that these lines of steps are, if they are one.
 fn certificate(alloc: Global, steps: &[u8]) -> Result<Option<Cert>, NoMemory>
     ensures value { IfOk result (λ o. MatchOption o (HasNone (IsSteps steps.now)) (λ cert. IsTheOne (IsSteps steps.now) (steps_of cert))) }
@@ -44,8 +51,12 @@ fn certificate(alloc: Global, steps: &[u8]) -> Result<Option<Cert>, NoMemory>
     file.extend_from_slice(b"end\n")?;
     match read_certs(alloc, file.as_slice(), 1) {
         Ok(certs) => Ok(only(certs)),
-        Err(CertFault::NoMemory) => Err(NoMemory),
-        Err(_) => Ok(None),
+        Err(fault) => {
+            if lacks_memory(fault) {
+                return Err(NoMemory);
+            }
+            Ok(None)
+        }
     }
 }
 
@@ -97,9 +108,10 @@ fn kept_among(
         let Ok(number) = u32::try_from(place + 1) else {
             return Err(NoMemory);
         };
-        if let Some(cert) = kept_one(&table, &mut shown, terms, cond)? {
-            list.push((number, cert))?;
-        }
+        let Some(cert) = kept_one(&table, &mut shown, terms, cond)? else {
+            continue;
+        };
+        list.push((number, cert))?;
     }
     Ok(Certs { list })
 }
