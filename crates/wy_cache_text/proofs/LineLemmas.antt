@@ -16,7 +16,7 @@ grouped (x ∷ a) b c = ap (λ (l : List _). x ∷ l) (grouped a b c)
 
 -- ---- the first line
 
-not_inside : (l r : List ℕ) → AllPass is_inside (l ++ 10 ∷ r) → ⊥
+pub not_inside : (l r : List ℕ) → AllPass is_inside (l ++ 10 ∷ r) → ⊥
 not_inside [] r passes = unlike (is_inside 10) passes.0 refl
 not_inside (b ∷ l) r passes = not_inside l r passes.1
 
