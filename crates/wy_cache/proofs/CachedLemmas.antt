@@ -5,8 +5,8 @@ use Rattle.std.specs.Prelude.{slice_get}
 use Rattle.std.proofs.lemmas.List.{length-map, take_more, take-append-drop, take_all}
 use Rattle.wy_term_text.proofs.wy_lemmas_proofs.Lists.{none_behind, append_mid}
 use Rattle.wy_term.specs.Condition.{Condition}
-use Rattle.wy_data.specs.scan.Front.{AllPass}
-use Rattle.wy_data.proofs.scan_lemmas.RunLemmas.{run_same}
+use Rattle.wy_term_text.specs.wy_data.scan.Front.{AllPass}
+use Rattle.wy_term_text.proofs.wy_data_proofs.scan_lemmas.RunLemmas.{run_same}
 use Rattle.wy_cert.specs.Steps.{Written, Certificates}
 use Rattle.wy_cert.specs.File.{is_listed}
 use Rattle.wy_cert.specs.writing.Text.{texts, step_text, line_text, certificate_text, header, file_text, some_pass, has_product}
@@ -134,3 +134,5 @@ file_long certs bytes is = subst (λ (i : List ℕ). 9 ≤ length i) (sym is) (h
 
 pub file_dropped : (certs : Certificates) (bytes : List ℕ) → bytes ≡ file_text certs → drop 9 bytes ≡ texts certificate_text certs ++ codes "end\n"
 file_dropped certs bytes is = ap (drop 9) is ∙ header_dropped (some_pass has_product certs) (texts certificate_text certs ++ codes "end\n")
+
+pub ruleset file_steps = (file_long, file_dropped)

@@ -90,6 +90,7 @@ fn put_all(
 
 /// The bytes of a cache with the conditions that are listed, in this order, and these steps for them, each text once: as many
 /// of them as fit. It takes expected time linear in the text of the certificates and in the texts of the conditions.
+#[tactic(auto, using(crate::proofs::CachedLemmas::file_steps))]
 pub fn cache_text(conds: &Conds, certs: &Certs) -> Result<Vec<u8>, NoMemory>
     requires conds { All (IsWithin (length conds.now.terms)) conds.now.list.items }
     requires names { NameTheirTerms certs.now }
