@@ -1,5 +1,5 @@
 -- What is written into a cache, certificate by certificate.
-use Rattle.std.proofs.Common.{◌≡◌, ℕ, zero, suc, ◌+◌, ◌-◌, ◌<◌, ◌≤◌, List, [], ◌∷◌, ◌++◌, Bool, true, false, codes, length, take, drop, get_or, map, Option, Some, None, refl, sym, ap, subst, ◌∙◌, arith, append_assoc}
+use Rattle.std.proofs.Common.{◌≡◌, ℕ, zero, suc, ◌+◌, ◌-◌, ◌<◌, ◌≤◌, List, [], ◌∷◌, ◌++◌, Bool, true, false, codes, length, take, drop, get_or, map, Option, Some, None, refl, sym, ap, subst, ◌∙◌, arith}
 use Rattle.std.specs.Fmt.{decimal}
 use Rattle.std.specs.Prelude.{slice_get}
 use Rattle.std.proofs.lemmas.List.{length-map, take_more, take-append-drop, take_all}
@@ -8,15 +8,14 @@ use Rattle.wy_term.specs.Condition.{Condition}
 use Rattle.wy_term_text.specs.wy_data.scan.Front.{AllPass}
 use Rattle.wy_term_text.proofs.wy_data_proofs.scan_lemmas.RunLemmas.{run_same}
 use Rattle.wy_cert.specs.Steps.{Written, Certificates}
-use Rattle.wy_cert.specs.File.{is_listed}
 use Rattle.wy_cert.specs.writing.Text.{texts, step_text, line_text, certificate_text, header, file_text, some_pass, has_product}
 use Rattle.wy_check.specs.wy_check_laws.reread.Writable.{IsPlace, AreWritable, AreWritableBehind}
 use Rattle.wy_check.proofs.wy_check_laws_proofs.reread_lemmas.StepLemmas.{step_inside, place_inside}
 use Rattle.wy_cache_text.specs.declared.writer.Writer.{Writer}
-use Rattle.wy_cache_text.specs.Lines.{is_inside, NoLine, IsLineAt, AreInside, lines_text, AreLines, AreLinesAt, NoLines}
+use Rattle.wy_cache_text.specs.Lines.{is_inside, NoLine, IsLineAt, AreInside, lines_text, AreLinesAt}
 use Rattle.wy_cache_text.specs.SoFar.{IsSoFar}
 use Rattle.wy_cache_text.specs.Written.{Row}
-use Rattle.wy_cache_text.proofs.LineLemmas.{grouped, not_inside, one_lot}
+use Rattle.wy_cache_text.proofs.LineLemmas.{grouped, not_inside}
 use Rattle.wy_cache_text.proofs.WrittenLemmas.{put_behind}
 use Rattle.wy_cache.specs.Cached.{row_of, with_row, rows_of}
 use Rattle.wy_cache.specs.Standing.{Stands}

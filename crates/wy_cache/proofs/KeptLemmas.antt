@@ -1,5 +1,5 @@
 -- What a cache shows, and nothing else.
-use Rattle.std.proofs.Common.{◌≡◌, ◌≢◌, ◌↔◌, All, MatchOption, ℕ, ◌+◌, ◌<◌, ◌≤◌, List, [], ◌∷◌, ◌++◌, Bool, true, false, codes, length, drop, get_or, map, zero, suc, Option, Some, None, Result, Ok, Err, refl, sym, ap, subst, ◌∙◌, arith, append_assoc}
+use Rattle.std.proofs.Common.{◌≡◌, ◌↔◌, All, MatchOption, ℕ, ◌+◌, ◌<◌, ◌≤◌, List, [], ◌∷◌, ◌++◌, Bool, true, false, codes, length, drop, get_or, map, zero, suc, Option, Some, None, Result, Ok, Err, refl, sym, ap, subst, ◌∙◌, arith, append_assoc}
 use Rattle.std.specs.Option.{option_map}
 use Rattle.std.proofs.lemmas.List.{length-map}
 use Rattle.wy_term_text.proofs.wy_lemmas_proofs.Choices.{unlike, same_to, or_left}
@@ -9,7 +9,7 @@ use Rattle.wy_term.specs.Condition.{Condition, condition_of}
 use Rattle.wy_term.specs.Nodes.{Plain, tree_at}
 use Rattle.wy_cert.specs.declared.fault.CertFault.{CertFault}
 use Rattle.wy_cert.specs.declared.step.Cert.{Cert}
-use Rattle.wy_cert.specs.Only.{IsTheOne, HasNone, GoesOn, IsBehind}
+use Rattle.wy_cert.specs.Only.{IsTheOne, HasNone, GoesOn}
 use Rattle.wy_cert.specs.Steps.{Written, Certificates, steps_of}
 use Rattle.wy_cert.specs.File.{ReadsFile, ReadsCerts, ends_early, complete, goes_behind_end, outside, twice, absent, bad_tree, goes_on, first, second, no_header, is_listed}
 use Rattle.wy_check.specs.declared.checking.Checked.{Checked}

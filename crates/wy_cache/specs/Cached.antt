@@ -1,5 +1,5 @@
 -- What is written into a cache.
-use Rattle.std.specs.Prelude.{ℕ, ◌-◌, List, [], ◌∷◌, Option, Some, None, length, slice_get}
+use Rattle.std.specs.Prelude.{◌-◌, List, [], ◌∷◌, Option, Some, None, length, slice_get}
 use Rattle.wy_term.specs.Condition.{Condition}
 use Rattle.wy_cert.specs.Steps.{Written, Certificates}
 use Rattle.wy_cert.specs.writing.Text.{texts, line_text}

@@ -62,12 +62,7 @@ fn put_one(
 }
 
 // Writes the entries for these certificates, whose text this is, until one doesn't fit.
-fn put_all(
-    writer: &mut Writer,
-    conds: &Conds,
-    certs: &Certs,
-    text: &[u8],
-) -> Result<(), NoMemory>
+fn put_all(writer: &mut Writer, conds: &Conds, certs: &Certs, text: &[u8]) -> Result<(), NoMemory>
     requires conds { All (IsWithin (length conds.now.terms)) conds.now.list.items }
     requires writable { AreWritableBehind (length conds.now.list.items) [] (certificates_of certs.now) }
     requires text { text.now ≡ texts certificate_text (certificates_of certs.now) ++ codes "end\n" }

@@ -4,5 +4,6 @@ pub mod Files
 pub mod Seen
 pub mod Found
 pub mod Written
+pub mod Reread
 -- what functions inside owe each other
 pub mod SoFar

@@ -1,9 +1,8 @@
-use Rattle.std.proofs.Common.{rules, ◌≡◌, ◌∙◌, ◌++◌, ℕ, length, map, sym, subst}
+use Rattle.std.proofs.Common.{rules, ◌≡◌, ◌∙◌, length, sym}
 use Rattle.std.proofs.lemmas.List.{length-map}
 use Rattle.wy_term.specs.Nodes.{tree_at}
 use Rattle.wy_cert.specs.Steps.{written, steps_of}
-use Rattle.wy_cert.specs.writing.Text.{texts, line_text, certificate_text}
-use Rattle.wy_cache_text.specs.Lines.{AreLinesAt}
+use Rattle.wy_cert.specs.writing.Text.{texts, line_text}
 use Rattle.wy_cache_text.proofs.LineLemmas.{one_lot}
 use Rattle.wy_cache.proofs.CachedLemmas.{some_line, behind_first, steps_stand}
 use Rattle.wy_cache.proofs.caching.first_steps.Goals as goal
@@ -26,7 +25,7 @@ returns-clause-steps c =
     let many : c.len.result ≡ length steps = whole ∙ sym (length-map c.args.cert.now.steps.items (written (tree_at c.args.cert.now.terms))) in
     let behind = behind_first c.args.number steps c.args.text.now c.requires.rest c.in-Some.rest.now c.requires.place c.requires.is c.in-Some.ensures.value in
     let one = one_lot c.len.result c.in-Some.rest.now c.in-Some-lines.both.0.now (texts line_text steps) c.in-Some-lines.both.1.now c.requires.rest c.in-Some-lines.ensures.value
-          (steps_stand steps c.in-Some.rest.now c.requires.rest c.len.result many c.requires.writable behind) in
+    (steps_stand steps c.in-Some.rest.now c.requires.rest c.len.result many c.requires.writable behind) in
     one.front
 
 pub returns-clause-rest : goal.returns-clause-rest
@@ -36,5 +35,5 @@ returns-clause-rest c = λ rest is.
     let many : c.len.result ≡ length steps = whole ∙ sym (length-map c.args.cert.now.steps.items (written (tree_at c.args.cert.now.terms))) in
     let behind = behind_first c.args.number steps c.args.text.now rest c.in-Some.rest.now c.requires.place is c.in-Some.ensures.value in
     let one = one_lot c.len.result c.in-Some.rest.now c.in-Some-lines.both.0.now (texts line_text steps) c.in-Some-lines.both.1.now rest c.in-Some-lines.ensures.value
-          (steps_stand steps c.in-Some.rest.now rest c.len.result many c.requires.writable behind) in
+    (steps_stand steps c.in-Some.rest.now rest c.len.result many c.requires.writable behind) in
     one.rest

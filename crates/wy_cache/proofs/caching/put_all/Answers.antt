@@ -1,4 +1,4 @@
-use Rattle.std.proofs.Common.{rules, arith, ◌≡◌, ◌<◌, ◌≤◌, ◌+◌, ◌-◌, ◌++◌, ◌∷◌, [], ℕ, List, true, codes, length, map, take, drop, get_or, sym, subst}
+use Rattle.std.proofs.Common.{rules, arith, ◌≡◌, ◌<◌, ◌≤◌, ◌+◌, ◌-◌, ◌++◌, [], ℕ, List, true, codes, length, map, take, drop, sym, subst}
 use Rattle.std.specs.Vec.{vec_len}
 use Rattle.std.proofs.lemmas.List.{length-map}
 use Rattle.wy_term.specs.Condition.{condition_of}
@@ -10,7 +10,7 @@ use Rattle.wy_cache_text.specs.Written.{Row}
 use Rattle.wy_cache_text.specs.SoFar.{IsSoFar}
 use Rattle.wy_cache.specs.Cached.{rows_of}
 use Rattle.wy_cache.proofs.KeptLemmas.{within_at}
-use Rattle.wy_cache.proofs.CachedLemmas.{MayStand, may_stand, stands_at, seen_at, got, rows_next, all_behind}
+use Rattle.wy_cache.proofs.CachedLemmas.{may_stand, stands_at, seen_at, got, rows_next, all_behind}
 use Rattle.wy_cache.proofs.caching.put_all.Goals as goal
 
 pub returns-then-is_full : goal.returns-then-is_full

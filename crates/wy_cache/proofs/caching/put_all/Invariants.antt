@@ -1,4 +1,4 @@
-use Rattle.std.proofs.Common.{◌≡◌, ◌+◌, ◌++◌, codes, map, take, drop}
+use Rattle.std.proofs.Common.{◌≡◌, ◌++◌, codes, map, take, drop}
 use Rattle.wy_term.specs.Condition.{condition_of}
 use Rattle.wy_cert.specs.Steps.{certificates_of}
 use Rattle.wy_cert.specs.writing.Text.{texts, certificate_text}

@@ -1,8 +1,6 @@
-use Rattle.std.proofs.Common.{rules, ◌≡◌, ◌≢◌, ◌++◌, codes, Ok}
+use Rattle.std.proofs.Common.{rules, ◌≡◌, ◌≢◌, ◌++◌, codes}
 use Rattle.wy_cert.specs.declared.fault.CertFault.TheVariants.{NoMemory}
 use Rattle.wy_cert.specs.Steps.{certificates_of}
-use Rattle.wy_cert.specs.File.{ReadsFile}
-use Rattle.wy_cache.specs.Kept.{file_with}
 use Rattle.wy_cache.proofs.KeptLemmas.{small_file, file_joined, by_only, steps_refused}
 use Rattle.wy_cache.proofs.keeping.certificate.Goals as goal
 

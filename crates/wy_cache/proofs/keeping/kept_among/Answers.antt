@@ -46,7 +46,7 @@ loop-place-preserved c =
     let names : NamesItsTerms c.in-Some.cert = search rules in
     let put = c.in_ok-push.ensures.items in
     let more : map pair c.push.new.self.items ≡ map pair c.loop-place.list.items ++ (i + 1, steps_of c.in-Some.cert) ∷ []
-          = ap (map pair) put ∙ map_pushed pair c.loop-place.list.items (c.in-Ok.number, c.in-Some.cert) ∙ ap (λ (n : ℕ). map pair c.loop-place.list.items ++ (n, steps_of c.in-Some.cert) ∷ []) number in
+    = ap (map pair) put ∙ map_pushed pair c.loop-place.list.items (c.in-Ok.number, c.in-Some.cert) ∙ ap (λ (n : ℕ). map pair c.loop-place.list.items ++ (n, steps_of c.in-Some.cert) ∷ []) number in
     record {
       all = subst (λ (done : Certificates). GoesOn done (AreKept es (i + 1 + 1) (drop (i + 1) (map (condition_of old) conds))) (AreKept es 1 (map (condition_of old) conds))) (sym more)
           (turn_kept es (AreKept es 1 (map (condition_of old) conds)) (map pair c.loop-place.list.items) (i + 1) (condition_of old cond) (drop (i + 1) (map (condition_of old) conds)) (drop i (map (condition_of old) conds)) (steps_of c.in-Some.cert)
@@ -64,4 +64,4 @@ returns-clause-value c =
     let i = c.loop-place.place in
     let le : length conds ≤ i = search rules in
     all_turned (all_held c.args.cache.now.entries.items) (AreKept (all_held c.args.cache.now.entries.items) 1 (map (condition_of old) conds)) (map (λ (e : ℕ × Cert). (e.0, steps_of e.1)) c.loop-place.list.items) (i + 1) (drop i (map (condition_of old) conds))
-        (none_dropped (condition_of old) conds i le) c.loop-place.invariant.all
+    (none_dropped (condition_of old) conds i le) c.loop-place.invariant.all

@@ -1,4 +1,4 @@
-use Rattle.std.proofs.Common.{rules, ◌≡◌, ◌∙◌, Some, ap, sym}
+use Rattle.std.proofs.Common.{rules, ◌∙◌, ap, sym}
 use Rattle.wy_term.specs.Condition.{condition_of}
 use Rattle.wy_cert.specs.Only.{IsTheOne, HasNone}
 use Rattle.wy_cert.specs.Steps.{steps_of}
@@ -18,11 +18,11 @@ returns-in-Yes-clause-value c = λ es found.
     let the : IsTheOne (IsSteps c.in-Some.steps.now) (steps_of c.in-Some-2.cert) = search rules in
     let good : IsValid (condition_of c.args.terms.now c.args.cond.now) (steps_of c.in-Some-2.cert) = search rules in
     kept_here es (condition_of c.args.terms.now c.args.cond.now) c.in_ok-text.text.items c.in-Some.steps.now c.in_ok-text.ensures.value (ap (steps_for es) (sym c.as_slice.ensures.value) ∙ sym (c.in-Some.ensures.value es found))
-        (steps_of c.in-Some-2.cert) the good
+    (steps_of c.in-Some-2.cert) the good
 
 pub returns-clause-value : goal.returns-clause-value
 returns-clause-value c = λ es found.
     let the : IsTheOne (IsSteps c.in-Some.steps.now) (steps_of c.in-Some-2.cert) = search rules in
     no_certificate es (condition_of c.args.terms.now c.args.cond.now) (steps_of c.in-Some-2.cert) c.in_ok-check.field-0 c.in-No.field-0 c.in-No.is c.in_ok-check.ensures.valid
-        (not_valid es (condition_of c.args.terms.now c.args.cond.now) c.in_ok-text.text.items c.in-Some.steps.now c.in_ok-text.ensures.value (ap (steps_for es) (sym c.as_slice.ensures.value) ∙ sym (c.in-Some.ensures.value es found))
-        (steps_of c.in-Some-2.cert) the)
+    (not_valid es (condition_of c.args.terms.now c.args.cond.now) c.in_ok-text.text.items c.in-Some.steps.now c.in_ok-text.ensures.value (ap (steps_for es) (sym c.as_slice.ensures.value) ∙ sym (c.in-Some.ensures.value es found))
+    (steps_of c.in-Some-2.cert) the)
