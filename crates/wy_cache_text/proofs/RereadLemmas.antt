@@ -46,7 +46,7 @@ spread r rest =
     let by : List ℕ = codes "by " ++ (decimal r.number ++ 10 ∷ r.steps) in
     let last : by ++ rest ≡ codes "by " ++ (decimal r.number ++ 10 ∷ (r.steps ++ rest)) = ap (λ (i : List ℕ). codes "by " ++ i) (grouped (decimal r.number) (10 ∷ r.steps) rest) in
     ap (λ (i : List ℕ). codes "for " ++ i)
-        (grouped (decimal r.hypotheses) (10 ∷ (r.key ++ by)) rest ∙ ap (λ (i : List ℕ). decimal r.hypotheses ++ 10 ∷ i) (grouped r.key by rest ∙ ap (λ (i : List ℕ). r.key ++ i) last))
+    (grouped (decimal r.hypotheses) (10 ∷ (r.key ++ by)) rest ∙ ap (λ (i : List ℕ). decimal r.hypotheses ++ 10 ∷ i) (grouped r.key by rest ∙ ap (λ (i : List ℕ). r.key ++ i) last))
 
 entry_of : (r : Row) (text rest : List ℕ) → IsWritable r → length (row_text r) ≤ most → text ≡ row_text r ++ rest → IsEntryAt text (held_row r) rest
 entry_of r text rest h short is =
