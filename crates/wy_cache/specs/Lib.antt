@@ -1,0 +1,8 @@
+-- what public contracts cite
+pub mod Key
+pub mod Kept
+pub mod Cached
+-- what functions inside owe each other
+pub mod Shown
+pub mod Small
+pub mod Standing
