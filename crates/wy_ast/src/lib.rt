@@ -19,3 +19,4 @@ pub use declarations::{Alias, Decl, Function, Method, Param, Program, Property};
 pub use expressions::{Expr, ExprKind, Op};
 pub use statements::{Case, Step, StepKind, Stmt, StmtKind};
 pub use types::{Ty, TyKind};
+pub use wy_items::NoMemory;

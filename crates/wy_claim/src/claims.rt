@@ -9,16 +9,13 @@ use crate::steps::{Cut, Draw, Gather, Look, Share};
 use atomic_table::Table;
 use std::alloc::Global;
 use std::marker::{Brand, Model};
+use wy_items::NoMemory;
 
 /// The most pieces that a counter may have.
 pub const MAX_PIECES: u32 = 1_048_576;
 
 /// The most seats that a counter may have.
 pub const MAX_SEATS: u32 = 64;
-
-/// There was no memory.
-#[derive(Clone, Copy, Debug, PartialEq, Eq)]
-pub struct NoMemory;
 
 /// A counter of pieces, which threads share by reference. Its one word is on the heap.
 #[derive(Drop)]

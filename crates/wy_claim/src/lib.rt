@@ -16,6 +16,7 @@ mod plan;
 mod seat;
 mod steps;
 
-pub use claims::{Claims, MAX_PIECES, MAX_SEATS, NoMemory};
+pub use claims::{Claims, MAX_PIECES, MAX_SEATS};
 pub use laws::{always_agree, never_twice, never_wraps};
 pub use seat::Seat;
+pub use wy_items::NoMemory;

@@ -11,9 +11,10 @@ ghost use Rattle.wy_heap.specs.Standing.{AreHeld};
 ghost use Rattle.wy_heap.specs.Weighing.{weight};
 ghost use Rattle.wy_heap.specs.Comparing.{Same, Tells, IsPair, SameFrom, pair_work, Compares};
 
-use crate::heap::{Heap, NoMemory};
+use crate::heap::Heap;
 use crate::part::{Part, Place};
 use std::alloc::AllocError;
+use wy_items::NoMemory;
 
 impl Heap {
     /// Whether both places stand for the same value. Two holds on one node are equal at once; else it

@@ -13,10 +13,6 @@ use slab::Slab;
 use std::alloc::Global;
 use wy_value::Shapes;
 
-/// There was no memory for what a call was to make.
-#[derive(Clone, Copy, Debug, PartialEq, Eq)]
-pub struct NoMemory;
-
 /// A heap of counted nodes. Each array and each record is a node, and its count is the number of
 /// places and slots that hold it.
 #[derive(Drop)]

@@ -11,9 +11,10 @@ ghost use Rattle.wy_heap.specs.Parts.{IsThere, IsBelow};
 ghost use Rattle.wy_heap.specs.Changing.{SameRest, SameNodes, Leads, AreThere, Builds, More};
 ghost use Rattle.wy_heap.specs.Copying.{CopiesAsMany};
 
-use crate::heap::{Heap, NoMemory};
+use crate::heap::Heap;
 use crate::part::{Part, Place};
 use std::alloc::AllocError;
+use wy_items::NoMemory;
 
 impl Heap {
     /// A second hold on what a place holds. It takes no memory where the place holds no node, or one

@@ -15,13 +15,14 @@ ghost use Rattle.wy_heap.specs.Standing.{Stands, Counts, IsWithin, AreHeld, Acts
 ghost use Rattle.wy_heap.specs.Changing.{SameRest};
 ghost use Rattle.wy_heap.specs.Importing.{Carries, Grew, OnlyOnes, IsKid, kids, jobs_of, Ready, works, LastFit, Gathers, HasKids, Finishes};
 
-use crate::heap::{Heap, NoMemory};
+use crate::heap::Heap;
 use crate::node::{Node, Shape};
 use crate::part::{Part, Place};
 use crate::table::shape_number;
 use std::alloc::AllocError;
 use wy_data::Name;
 use wy_value::Value;
+use wy_items::NoMemory;
 
 impl Heap {
     /// A place for a value from outside, in which each array and each record is a new node with one

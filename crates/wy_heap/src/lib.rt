@@ -24,6 +24,7 @@ mod showing;
 mod slots;
 mod table;
 
-pub use heap::{Heap, NoMemory};
+pub use heap::Heap;
 pub use laws::{nothing_dead, nothing_left};
 pub use part::{Kind, Place, Slot};
+pub use wy_items::NoMemory;

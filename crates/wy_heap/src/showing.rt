@@ -14,10 +14,11 @@ ghost use Rattle.wy_heap.specs.Standing.{AreHeld};
 ghost use Rattle.wy_heap.specs.Weighing.{weight};
 ghost use Rattle.wy_heap.specs.Showing.{opening, closing, separator, lead_of, IsLeft, IsText, rest_work, GoesOn};
 
-use crate::heap::{Heap, NoMemory};
+use crate::heap::Heap;
 use crate::node::Shape;
 use crate::part::{Part, Place};
 use std::alloc::{AllocError, Global};
+use wy_items::NoMemory;
 
 impl Heap {
     /// The text of what a place stands for, as `[1, {a: true, b: null}]`, in time linear in the text.

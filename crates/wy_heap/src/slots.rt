@@ -14,9 +14,10 @@ ghost use Rattle.wy_heap.specs.Changing.{SameRest, IsNodeSlot, Swaps, More};
 ghost use Rattle.wy_heap.specs.Copying.{CopiesAsMany};
 ghost use Rattle.wy_heap.specs.Numbering.{number_position};
 
-use crate::heap::{Heap, NoMemory};
+use crate::heap::Heap;
 use crate::node::Shape;
 use crate::part::{Part, Place, Slot};
+use wy_items::NoMemory;
 
 impl Heap {
     /// A second hold on what is in a slot. It takes no memory where that is no node, or one with fewer

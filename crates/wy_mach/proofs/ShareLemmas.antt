@@ -4,7 +4,7 @@ use Rattle.std.specs.Prelude.{Result, Ok, Err, replicate}
 use Rattle.wy_heap.specs.declared.part.Part.{Part}
 use Rattle.wy_heap.specs.declared.part.Part.TheVariants.{Null}
 use Rattle.wy_heap.specs.declared.heap.Heap.{Heap}
-use Rattle.wy_heap.specs.declared.heap.NoMemory.{NoMemory}
+use Rattle.wy_items.specs.declared.memory.NoMemory.{NoMemory}
 use Rattle.wy_heap.specs.Nodes.{Form, list_form, Map, map_of, holds}
 use Rattle.wy_heap.specs.Making.{IsNew, Came, CanHave}
 use Rattle.wy_heap.specs.Changing.{Lasts}

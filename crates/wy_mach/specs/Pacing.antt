@@ -1,6 +1,6 @@
 -- The small answer of an instruction, as what a turn answers.
 use Rattle.std.specs.Prelude.{Result, Ok, Err}
-use Rattle.wy_heap.specs.declared.heap.NoMemory as want
+use Rattle.wy_items.specs.declared.memory.NoMemory as want
 use Rattle.wy_mach.specs.declared.machine.Turn.{Turn}
 use Rattle.wy_mach.specs.declared.machine.Turn.TheVariants as turn
 use Rattle.wy_mach.specs.declared.machine.Pace.{Pace}

@@ -11,10 +11,10 @@ pub enum Stop {
     NoMemory,
 }
 
-impl From<wy_heap::NoMemory> for Stop {
+impl From<wy_items::NoMemory> for Stop {
     ghost from_gives = { λ _ e. e ≡ stop.NoMemory };
 
-    fn from(_: wy_heap::NoMemory) -> Stop {
+    fn from(_: wy_items::NoMemory) -> Stop {
         Stop::NoMemory
     }
 }

@@ -4,7 +4,7 @@ ghost use Rattle.wy_print.specs.ExprText.{expr_texts};
 ghost use Rattle.wy_print.specs.StmtText as spec;
 
 use crate::expressions::write_expr;
-use crate::fault::NoMemory;
+use wy_ast::NoMemory;
 use crate::pieces::write_bytes;
 use std::alloc::Global;
 use wy_ast::Expr;

@@ -5,7 +5,7 @@ ghost use Rattle.wy_print.specs.ProgramText as spec;
 ghost use Rattle.wy_print.specs.StmtText.{where_lines};
 
 use crate::clauses::{write_clauses, write_where};
-use crate::fault::NoMemory;
+use wy_ast::NoMemory;
 use crate::pieces::{write_bytes, write_name};
 use crate::statements::write_block;
 use crate::types::{write_ty, write_typed};

@@ -4,7 +4,7 @@ ghost use Rattle.wy_print.specs.Pieces.{listed};
 ghost use Rattle.wy_print.specs.ExprText as spec;
 
 use crate::edges::{bracketed_begins, bracketed_ends, is_below, level};
-use crate::fault::NoMemory;
+use wy_ast::NoMemory;
 use crate::levels::{POSTFIX, SUM, UNARY, needs_left, needs_right, symbol};
 use crate::pieces::{
     quantifier_word, truth_word, write_bytes, write_name, write_number, write_quoted,

@@ -11,12 +11,11 @@ mod clauses;
 mod declarations;
 mod edges;
 mod expressions;
-mod fault;
 mod levels;
 mod pieces;
 mod printer;
 mod statements;
 mod types;
 
-pub use fault::NoMemory;
 pub use printer::print;
+pub use wy_ast::NoMemory;

@@ -10,7 +10,7 @@ ghost use Rattle.wy_print.specs.TypeText as types;
 
 use crate::clauses::write_where;
 use crate::expressions::{write_expr, write_exprs, write_range};
-use crate::fault::NoMemory;
+use wy_ast::NoMemory;
 use crate::pieces::{deeper, write_bytes, write_name};
 use crate::types::write_typed;
 use std::alloc::Global;

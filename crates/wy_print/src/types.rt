@@ -3,7 +3,7 @@ ghost use Rattle.std.specs.Prelude.{◌≡◌, ◌++◌, codes, OnOk};
 ghost use Rattle.wy_print.specs.Pieces.{listed};
 ghost use Rattle.wy_print.specs.TypeText as spec;
 
-use crate::fault::NoMemory;
+use wy_ast::NoMemory;
 use crate::pieces::{write_bytes, write_name};
 use wy_ast::{Ty, TyKind};
 use wy_data::Name;

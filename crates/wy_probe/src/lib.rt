@@ -15,12 +15,9 @@ mod parameters;
 mod probing;
 mod records;
 mod tables;
-#[cfg(test)]
-mod tests;
 mod trials;
 mod tuples;
 
 pub use laws::{there_is_one_finding, tuples_come_in_order};
-pub use parameters::lists_of;
 pub use probing::{ProbeEnd, probe};
 pub use tuples::{first_tuple, has_empty, next_tuple_of};

@@ -18,7 +18,7 @@ use wy_value::Value;
 ///
 /// The values of each declared type are made once for each depth, and then those of the parameters, in time linear in their
 /// types as they are written, for each list that is made.
-pub fn lists_of(
+pub(crate) fn lists_of(
     alloc: Global,
     names: &Names,
     params: &[Param],

@@ -10,3 +10,5 @@ pub mod ListGrammar
 pub mod ListText
 -- the example's readers, which its functions owe each other
 pub mod ListReading
+-- passed on to the crates above
+pub use Rattle.wy_items.specs as wy_items

@@ -18,4 +18,4 @@ mod symbols;
 
 pub use stop::Stop;
 pub use symbols::{Class, next_is, one, skip, spelled, word};
-pub use wy_items::{Boxed, Items};
+pub use wy_items::{Boxed, Items, NoMemory};

@@ -18,3 +18,4 @@ pub mod Copying
 -- passed on to the crates above
 pub use Rattle.wy_value.specs.wy_data as wy_data
 pub use Rattle.wy_value.specs as wy_value
+pub use Rattle.wy_value.specs.wy_items as wy_items

@@ -5,7 +5,7 @@ ghost use Rattle.wy_term.specs.Nodes.{tree_at, node_at as plain_at};
 ghost use Rattle.wy_term.specs.Numbers.{IsAt, Keeps};
 ghost use Rattle.wy_term.specs.Copying.{AreCopied, Looked};
 
-use crate::memory::NoMemory;
+use wy_value::NoMemory;
 use crate::parts::{parts_of, with_parts};
 use crate::terms::Terms;
 use std::alloc::Global;

@@ -10,7 +10,6 @@ mod cond;
 mod copy;
 mod fold;
 mod law;
-mod memory;
 mod node;
 mod parts;
 mod replace;
@@ -18,7 +17,6 @@ mod terms;
 
 pub use cond::{Cond, CondKind, Conds, Unfold};
 pub use law::folding_keeps_meaning;
-pub use memory::NoMemory;
 pub use node::{Kind, Node, Quantifier};
 pub use terms::{Mark, Terms};
-pub use wy_value::{Name, scan};
+pub use wy_value::{Name, NoMemory, scan};

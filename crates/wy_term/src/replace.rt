@@ -10,7 +10,7 @@ ghost use Rattle.wy_term.specs.ReplacingView.{seen_pairs, AreBelow, image_at, Ar
 
 use crate::copy::{image_of, looked_up, note, nothing_made};
 use crate::fold::{Folded, conjunction, disjunction, number_at};
-use crate::memory::NoMemory;
+use wy_value::NoMemory;
 use crate::node::{Node, Quantifier};
 use crate::parts::{parts_of, with_parts};
 use crate::terms::Terms;

@@ -8,7 +8,7 @@ ghost use Rattle.wy_term.specs.Numbers.{IsAt, Keeps};
 
 use crate::copy::copied;
 use crate::fold::{Folded, fold};
-use crate::memory::NoMemory;
+use wy_value::NoMemory;
 use crate::node::Node;
 use crate::replace::made;
 use indexmap::IndexSet;

@@ -13,3 +13,4 @@ pub mod Shown
 pub mod Reading
 -- passed on to the crates above
 pub use Rattle.wy_data.specs as wy_data
+pub use Rattle.wy_reading.specs.wy_items as wy_items

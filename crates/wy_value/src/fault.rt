@@ -14,10 +14,6 @@ pub enum ValueFault {
     NoMemory,
 }
 
-/// Want of memory.
-#[derive(Clone, Copy, Debug, PartialEq, Eq)]
-pub struct NoMemory;
-
 /// What the rules of the grammar refuse.
 #[derive(Clone, Copy, Debug, PartialEq, Eq)]
 pub enum Kind {
@@ -25,10 +21,4 @@ pub enum Kind {
     Deep,
     /// A field that is given twice.
     Twice,
-}
-
-impl From<std::alloc::AllocError> for NoMemory {
-    fn from(_: std::alloc::AllocError) -> NoMemory {
-        NoMemory
-    }
 }

@@ -17,7 +17,7 @@ mod text;
 mod value;
 
 pub use bounds::{INT_MAX, INT_MIN};
-pub use fault::{NoMemory, ValueFault};
+pub use fault::ValueFault;
 pub use laws::{
     a_shown_value_is_read, a_text_has_one_fault, a_text_has_one_reading, datum_determines_value,
     text_determines_value,
@@ -27,4 +27,4 @@ pub use shapes::Shapes;
 pub use text::read_values;
 pub use value::Value;
 pub use wy_data::{Name, scan};
-pub use wy_reading::{Boxed, Items};
+pub use wy_reading::{Boxed, Items, NoMemory};

@@ -4,7 +4,6 @@ ghost use Rattle.std.specs.Fmt.{signed_decimal};
 ghost use Rattle.wy_value.specs.Seen.{seen, seen_fields, seen_items};
 ghost use Rattle.wy_value.specs.Shown.{shown, shown_items, shown_fields};
 
-use crate::fault::NoMemory;
 use crate::value::Value;
 use std::alloc::Global;
 use wy_data::Name;

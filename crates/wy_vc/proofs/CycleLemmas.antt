@@ -6,7 +6,7 @@ use Rattle.wy_core.specs.Types.{Ty}
 use Rattle.wy_core.specs.CoreTree as tree
 use Rattle.wy_core.specs.CoreSeen.{seen_exprs}
 use Rattle.wy_core.specs.declared.expressions.Expr as e
-use Rattle.wy_term.specs.declared.memory.NoMemory.{NoMemory}
+use Rattle.wy_term.specs.wy_items.declared.memory.NoMemory.{NoMemory}
 use Rattle.wy_vc_spec.specs.Calls.{Walked}
 use Rattle.wy_vc_spec.specs.Joins as joins
 use Rattle.wy_vc_spec.specs.Numbered.{Node, numbered, numbered_block, numbered_list, numbered_stmt}

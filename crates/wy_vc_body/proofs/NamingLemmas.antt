@@ -1,6 +1,6 @@
 -- New names, and names for large terms.
 use Rattle.std.proofs.Common.{◌≡◌, ◌<◌, ℕ, suc, List, [], true, false, Result, IfOk, length, sym, ap, subst, if◌then◌else◌}
-use Rattle.wy_term.specs.declared.memory.NoMemory.{NoMemory}
+use Rattle.wy_term.specs.wy_items.declared.memory.NoMemory.{NoMemory}
 use Rattle.wy_term.specs.Term.{Term}
 use Rattle.wy_term.specs.Nodes.{tree_at}
 use Rattle.wy_vc_exprs.specs.wy_vc_spec.Making.{equal}

@@ -3,7 +3,7 @@ use Rattle.std.proofs.Common.{◌≡◌, ◌+◌, ℕ, List, Result, IfOk, sym, 
 use Rattle.std.specs.Prelude.{OnOk}
 use Rattle.wy_core.specs.CoreTree as tree
 use Rattle.wy_core.specs.declared.declarations.Core.{Core}
-use Rattle.wy_term.specs.declared.memory.NoMemory.{NoMemory}
+use Rattle.wy_term.specs.wy_items.declared.memory.NoMemory.{NoMemory}
 use Rattle.wy_vc_terms.specs.wy_vc_spec.Sizes.{exprs_in}
 use Rattle.wy_vc_terms.specs.wy_vc_spec.Variables.{Vars}
 use Rattle.wy_vc_tables.specs.declared.program_names.program.Program.{Program}

@@ -12,7 +12,7 @@ use Rattle.wy_term_text.specs.spell.Todo.{Work, root, kind_name, kind_fields, Ro
 use Rattle.wy_term_text.specs.spell.Fields.{IsKindFieldRead}
 use Rattle.wy_term_text.specs.spell.View.{seen}
 use Rattle.wy_term_text.specs.declared.spell.work.Task.{Task}
-use Rattle.wy_term.specs.declared.memory.NoMemory.{NoMemory}
+use Rattle.wy_term.specs.wy_items.declared.memory.NoMemory.{NoMemory}
 use Rattle.std.specs.declared.alloc.Global.{Global}
 use Rattle.wy_term_text.proofs.spell_lemmas.GoesUp.{apart, no_word_byte, word_is, covers, tail_of, tail_word}
 

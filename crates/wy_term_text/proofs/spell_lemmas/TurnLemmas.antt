@@ -3,7 +3,7 @@ use Rattle.std.proofs.Common.{◌≡◌, ℕ, List, ◌∷◌, ◌++◌, length,
 use Rattle.std.proofs.lemmas.List.{reverse-append, reverse-reverse, map-append}
 use Rattle.wy_term.specs.Term.{Symbol, Term}
 use Rattle.wy_term.specs.Nodes.{Plain}
-use Rattle.wy_term.specs.declared.memory.NoMemory.{NoMemory}
+use Rattle.wy_term.specs.wy_items.declared.memory.NoMemory.{NoMemory}
 use Rattle.wy_term_text.specs.declared.spell.work.Task.{Task}
 use Rattle.wy_term_text.specs.spell.Todo.{Work, root, Goes, Replaces, Covers, Refuses}
 use Rattle.wy_term_text.specs.spell.Done.{trees, IsMade, CannotBe, Turns, Blocks, Puts}

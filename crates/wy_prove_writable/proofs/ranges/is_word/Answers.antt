@@ -1,7 +1,7 @@
 use Rattle.std.proofs.Common.{◌≡◌, ◌↔◌, Bool, IsTrue, Result, rules, subst, sym}
 use Rattle.std.specs.Prelude.{IfOk}
 use Rattle.wy_data.specs.scan.Words.{IsWord}
-use Rattle.wy_term.specs.declared.memory.NoMemory.{NoMemory}
+use Rattle.wy_term.specs.wy_items.declared.memory.NoMemory.{NoMemory}
 use Rattle.wy_prove_writable.proofs.RangeLemmas.{word_none, word_there}
 use Rattle.wy_prove_writable.proofs.ranges.is_word.Goals as goal
 use Rattle.wy_prove_writable.proofs.ranges.is_word.Goals.{in-Some, in-None}
