@@ -7,6 +7,7 @@ ghost use Rattle.wy_value.specs.Shown.{shown, shown_items, shown_fields};
 use crate::value::Value;
 use std::alloc::Global;
 use wy_data::Name;
+use wy_reading::NoMemory;
 
 /// The text of the value, as `[1, {a: true, b: null}]`. It is linear in the text, and recurses as deep
 /// as the value nests.
