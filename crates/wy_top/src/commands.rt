@@ -62,13 +62,13 @@ pub fn run_words<R: Threads + Sync, F: Files, O: Sink, E: Sink>(
     requires { AcceptedRunsGo }
     ensures comes { Comes (words_in words.now)
         (setting (F.told files.old) (F.load_faults files.old) (F.load_faults files.new)
-            (F.misses files.old) (F.misses files.new))
+        (F.misses files.old) (F.misses files.new))
         (saving (F.told files.old (saved_name (command_of (words_in words.now))))
-            (F.told files.new (saved_name (command_of (words_in words.now))))
-            (F.save_faults files.old) (F.save_faults files.new))
+        (F.told files.new (saved_name (command_of (words_in words.now))))
+        (F.save_faults files.old) (F.save_faults files.new))
         result
         (sinks (O.taken out.old) (O.taken out.new) (O.faults out.old) (O.faults out.new)
-            (E.taken err.old) (E.taken err.new) (E.faults err.old) (E.faults err.new)) }
+        (E.taken err.old) (E.taken err.new) (E.faults err.old) (E.faults err.new)) }
 
     // No file is changed but the one that `prove` saves.
     ensures kept { (other : List ℕ) → IsKeptBy (command_of (words_in words.now)) other
@@ -104,13 +104,13 @@ fn perform<R: Threads + Sync, F: Files, O: Sink, E: Sink>(
     requires workers { (1 ≤ workers) × (workers ≤ 64) }
     ensures does { Does (asked_in asked.entry)
         (setting (F.told files.old) (F.load_faults files.old) (F.load_faults files.new)
-            (F.misses files.old) (F.misses files.new))
+        (F.misses files.old) (F.misses files.new))
         (saving (F.told files.old (saved_name (Some (asked_in asked.entry))))
-            (F.told files.new (saved_name (Some (asked_in asked.entry))))
-            (F.save_faults files.old) (F.save_faults files.new))
+        (F.told files.new (saved_name (Some (asked_in asked.entry))))
+        (F.save_faults files.old) (F.save_faults files.new))
         result
         (sinks (O.taken out.old) (O.taken out.new) (O.faults out.old) (O.faults out.new)
-            (E.taken err.old) (E.taken err.new) (E.faults err.old) (E.faults err.new)) }
+        (E.taken err.old) (E.taken err.new) (E.faults err.old) (E.faults err.new)) }
     ensures kept { (other : List ℕ) → IsKeptBy (Some (asked_in asked.entry)) other
         → F.told files.new other ≡ F.told files.old other }
 {
