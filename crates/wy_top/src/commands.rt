@@ -1,7 +1,7 @@
 //! The commands: from words to a status and to what the sinks take.
 ghost use Rattle.std.specs.Prelude.{◌≡◌, ◌≤◌, ℕ, List, Some};
-ghost use Rattle.wy_top_answers.specs.Showing.{sinks};
-ghost use Rattle.wy_top_answers.specs.Steps.{setting};
+ghost use Rattle.wy_top_probe.specs.wy_top_answers.Showing.{sinks};
+ghost use Rattle.wy_top_probe.specs.wy_top_answers.Steps.{setting};
 ghost use Rattle.wy_top.specs.Going.{AcceptedRunsGo};
 ghost use Rattle.wy_top.specs.Saves.{saving};
 ghost use Rattle.wy_top.specs.Statement.{Comes, Does, IsKeptBy, saved_name};
@@ -18,9 +18,9 @@ use crate::texts::{Text, text_answer};
 use std::alloc::Global;
 use std::thread::Threads;
 use wy_port::{Files, Sink};
-use wy_top_answers::report::words_refused;
-use wy_top_answers::{no_memory, refusal, show};
 use wy_top_probe::probe_answer;
+use wy_top_probe::wy_top_answers::report::words_refused;
+use wy_top_probe::wy_top_answers::{no_memory, refusal, show};
 use wy_top_words::{Words, WordsFault, read_words};
 
 /// Does what `words` say, over `files`, and answers the exit status. Results go to `out`, refusals to `err`.

@@ -1,11 +1,11 @@
 use Rattle.std.proofs.Common.{◌≡◌, ℕ, List, Option, None, inl, inr, sym, subst}
 use Rattle.std.specs.Prelude.{IfOk}
 use Rattle.std.specs.String.{string_bytes}
-use Rattle.wy_top_answers.specs.Answers.{IsRefusal}
-use Rattle.wy_top_answers.specs.Showing.{Shown, Sinks, sinks}
-use Rattle.wy_top_answers.specs.Steps.{Setting, setting}
-use Rattle.wy_top_answers.specs.declared.answer.Answer.{Answer}
-use Rattle.wy_top_answers.specs.report.Lines.{words_refused}
+use Rattle.wy_top_probe.specs.wy_top_answers.Answers.{IsRefusal}
+use Rattle.wy_top_probe.specs.wy_top_answers.Showing.{Shown, Sinks, sinks}
+use Rattle.wy_top_probe.specs.wy_top_answers.Steps.{Setting, setting}
+use Rattle.wy_top_probe.specs.wy_top_answers.declared.answer.Answer.{Answer}
+use Rattle.wy_top_probe.specs.wy_top_answers.report.Lines.{words_refused}
 use Rattle.wy_top_words.specs.CommandLine.{Asked, command_of}
 use Rattle.wy_top_words.specs.Plain.{words_in}
 use Rattle.wy_top.specs.Saves.{Saving, saving}
