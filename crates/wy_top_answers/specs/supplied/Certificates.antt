@@ -41,8 +41,8 @@ pub data certificates (s : Setting) (name : List ℕ) (count : ℕ) (m : Sense) 
   from_file : name ≢ no_file → Follows (loaded s name certificate_limit m) (certificates_read name count) r → certificates s name count m r
 
 -- the file with the certificates is told, if one is named
-abbrev pub AreToldOf : Setting → List ℕ → Type 0
-AreToldOf s name = name ≢ no_file → IsTold s name
+abbrev pub IsFileTold : Setting → List ℕ → Type 0
+IsFileTold s name = name ≢ no_file → IsTold s name
 
 -- the answer of a fault of the file, or want of memory
 abbrev pub IsBadFile : List ℕ → CertFault → Answer → Type 0
