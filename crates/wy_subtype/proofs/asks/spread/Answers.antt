@@ -1,4 +1,4 @@
-use Rattle.std.proofs.Common.{◌≡◌, ℕ, ◌<◌, ◌≤◌, ◌+◌, ◌-◌, List, [], ◌∷◌, ◌++◌, map, length, take, drop, get_or, refl, sym, ap, ◌∙◌, append_assoc, append-nil, take_all, length-drop, arith, inl, inr, ◌⊎◌, min}
+use Rattle.std.proofs.Common.{◌≡◌, ℕ, ◌<◌, ◌≤◌, ◌+◌, ◌-◌, List, [], ◌++◌, map, length, take, drop, get_or, sym, ap, ◌∙◌, append_assoc, append-nil, take_all, length-drop, arith, inl, inr, ◌⊎◌, min}
 use Rattle.std.proofs.lemmas.Bool.{cases_lt}
 use Rattle.wy_canon.specs.wy_types.Asks.{spread, spread_field}
 use Rattle.wy_canon.specs.wy_types.declared.conjuncts.Part.{Part}
