@@ -1,9 +1,14 @@
-//! Tests of the evaluator and of the machine: what no command shows.
+//! Tests of the machine: small routines, under caps, counts of steps and sinks that no command sets.
+//!
+//! `assembler` makes code of texts, `turns` makes turns until they end, `ends` says how they do, and `rows` has the routines. What each
+//! instruction does in a program stands in stored runs.
 #![tactic(auto)]
 
 #[cfg(test)]
-mod eval;
+mod assembler;
 #[cfg(test)]
-mod fields;
+mod ends;
 #[cfg(test)]
-mod mach;
+mod rows;
+#[cfg(test)]
+mod turns;

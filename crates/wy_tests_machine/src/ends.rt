@@ -6,8 +6,8 @@ ghost use Rattle.wy_value.specs.Seen.{seen_items};
 ghost use Rattle.wy_value.specs.Shapes.{IsShapes};
 ghost use Rattle.wy_value.specs.Values.{AreValues};
 
-use crate::mach::assembler::{code, number_or};
-use crate::mach::turns::{End, turns};
+use crate::assembler::{code, number_or};
+use crate::turns::{End, turns};
 use std::alloc::{AllocError, Global};
 use wy_code::Code;
 use wy_items::Items;

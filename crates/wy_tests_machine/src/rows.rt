@@ -1,6 +1,6 @@
 //! Small routines, and how their runs end.
-use crate::fields::field;
-use crate::mach::ends::{ends, limits_of};
+use crate::ends::{ends, limits_of};
+use std::str::Split;
 use std::test::Fail;
 
 // A row a line: limits (holders of a node, instructions, bytes that the sink takes in all and in one call, and its call that fails), the
@@ -74,6 +74,14 @@ const ROWS: &str = "\
 5 1000 4096 1 5 | Print 0; PrintInt 1; Print 0; Return 1 | | ([104, 105], -7) | hi-7h> fault
 5 1000 4096 1 6 | Print 0; PrintInt 1; Print 0; Return 1 | | ([104, 105], -7) | hi-7hi> -7 copies 0 nodes 0
 5 100 | Print 0; Fill 2 0 1; Print 0; Return 2 | | ([104], 4611686018427387904) | h> no memory";
+
+// The next field of a row, without the blanks around it.
+fn field<'a>(fields: &mut Split<'a, char>) -> &'a str {
+    match fields.next() {
+        Some(field) => field.trim(),
+        None => "",
+    }
+}
 
 #[test]
 fn rows(rt: HostRuntime) -> Result<(), Fail> {

@@ -1,4 +1,4 @@
-use Rattle.wy_tests_machine.proofs.mach.ends.ran.Goals as goal
+use Rattle.wy_tests_machine.proofs.ends.ran.Goals as goal
 
 pub turns-end-requires : goal.turns-end-requires
 turns-end-requires c = record { is = c.in-Ok.ensures.is }

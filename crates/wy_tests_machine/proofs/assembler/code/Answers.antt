@@ -1,7 +1,7 @@
 use Rattle.std.proofs.Common.{◌≡◌, List, [], ◌∷◌, ◌++◌, ◌∙◌, ap}
 use Rattle.wy_code.specs.declared.routines.Routine.{Routine}
 use Rattle.wy_tests_machine.proofs.CodeLemmas.{two_ints}
-use Rattle.wy_tests_machine.proofs.mach.assembler.code.Goals as goal
+use Rattle.wy_tests_machine.proofs.assembler.code.Goals as goal
 
 pub returns-clause-ints : goal.returns-clause-ints
 returns-clause-ints c =
