@@ -1,6 +1,9 @@
 -- What the code keeps of a program and of what it owes.
 use Rattle.std.specs.Prelude.{◌≡◌, ◌≤◌, ℕ, List, All, length, map}
 use Rattle.wy_batch.specs.wy_check.Within.{IsWithin}
+use Rattle.wy_cache_text.specs.Files.{Entries}
+use Rattle.wy_cache_text.specs.Seen.{all_held}
+use Rattle.wy_cache_text.specs.declared.entry.Cache.{Cache}
 use Rattle.wy_prove.specs.Answers.{IsFormedThroughout}
 use Rattle.wy_top.specs.Acceptance.{Acceptance, AreVerdicts}
 use Rattle.wy_top.specs.Programs.{Program, conditions_of}
@@ -75,6 +78,10 @@ pub record IsWhole (a : Accepted) : Type 0 where
   pub count : a.count ≡ length (conditions_of (acceptance_in a).program)
   pub source : IsOfSource (acceptance_in a).program
   pub holds : AllHold (conditions_of (acceptance_in a).program)
+
+-- the entries of a cache
+abbrev pub entries_in : Cache → Entries
+entries_in cache = all_held cache.entries.items
 
 -- what is answered behind the save
 abbrev pub answer_in : Proof → Answer

@@ -24,6 +24,7 @@
 #![tactic(auto)]
 
 mod accepting;
+mod caching;
 mod certificate_laws;
 mod checking;
 mod code_laws;
@@ -41,6 +42,8 @@ mod owing;
 mod proving;
 mod reading;
 mod refusing;
+mod renewing;
+mod repeating;
 mod running;
 mod saving;
 mod texts;
