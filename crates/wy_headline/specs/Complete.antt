@@ -8,6 +8,7 @@ use Rattle.wy_top.specs.wy_top_answers.Steps.{Came, IsTold, Sense, Setting, answ
 use Rattle.wy_top.specs.wy_top_answers.declared.answer.Answer.{Answer}
 use Rattle.wy_top.specs.wy_top_answers.report.Lines.{words_refused}
 use Rattle.wy_top.specs.Acceptance.{check_steps}
+use Rattle.wy_top.specs.Again.{Renews, renews_file}
 use Rattle.wy_top.specs.Large.{big_steps}
 use Rattle.wy_top.specs.Launching.{run_steps}
 use Rattle.wy_top.specs.wy_top_probe.Probing.{probe_steps}
@@ -19,7 +20,7 @@ use Rattle.wy_top.specs.Statement.{Comes}
 use Rattle.wy_top.specs.Texts.{text_steps}
 use Rattle.wy_top.specs.declared.launching.Launch.{Launch}
 use Rattle.wy_top.specs.declared.texts.Text.TheVariants as text
-use Rattle.wy_top_words.specs.CommandLine.{Asked, check, run, prove, conds, fmt, dis, big, probe, command_of}
+use Rattle.wy_top_words.specs.CommandLine.{Asked, check, run, prove, conds, fmt, dis, big, probe, again, command_of}
 use Rattle.wy_value.specs.Datum.{Datum}
 use Rattle.wy_headline.specs.Large.{IsLargeRun, line_of}
 use Rattle.wy_headline.specs.Runs.{EndsDone, Entry, IsDoneWithin}
@@ -77,6 +78,18 @@ pub record ProvesWhole (s : Setting) (source : List ℕ) (budget : ℕ) (v : Sav
   pub defined : IsDefined s (proves_file s source budget) status proof
   pub shown : ShowsProofWhole s source budget v status k proof
 
+-- ---- the command `again`
+
+-- likewise, with a cache of what is kept and what was found
+abbrev pub ShowsRenewalWhole : Setting → List ℕ → List ℕ → ℕ → Saving → ℕ → Sinks → Came Answer → Type 0
+ShowsRenewalWhole s source cache budget v status k (Ok a) = (saved : List ℕ) × Renews s source cache budget saved × IsSaved v.told_before v.told_after saved × ShowsWhole a status k
+ShowsRenewalWhole s source cache budget v status k (Err a) = ShowsWhole a status k × (v.told_after ≡ v.told_before)
+
+pub record RenewsWhole (s : Setting) (source cache : List ℕ) (budget : ℕ) (v : Saving) (status : ℕ) (k : Sinks) : Type 0 where
+  pub renewal : Came Answer
+  pub defined : IsDefined s (renews_file s source cache budget) status renewal
+  pub shown : ShowsRenewalWhole s source cache budget v status k renewal
+
 -- ---- all commands
 
 abbrev pub DoesWhole : Asked → Setting → Saving → ℕ → Sinks → Type 0
@@ -88,6 +101,7 @@ DoesWhole (fmt source) s v status k = AnswersWhole s (text_steps s text.Layout s
 DoesWhole (dis source) s v status k = AnswersWhole s (text_steps s text.Listing source) status k
 DoesWhole (big functions seed budget steps) s v status k = LargeWhole s functions seed budget steps status k
 DoesWhole (probe source name tuples ticks) s v status k = AnswersWhole s (probe_steps s source name tuples ticks) status k
+DoesWhole (again source cache budget) s v status k = RenewsWhole s source cache budget v status k
 
 abbrev pub DoesWholeIf : Option Asked → Setting → Saving → ℕ → Sinks → Type 0
 DoesWholeIf (Some asked) s v status k = DoesWhole asked s v status k
