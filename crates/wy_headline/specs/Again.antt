@@ -20,13 +20,15 @@ use Rattle.wy_top.specs.Saves.{Saving}
 use Rattle.wy_top.specs.Statement.{IsRenewed}
 use Rattle.wy_headline.specs.Accepted.{IsCutShort}
 
--- of these conditions so many are kept: the first entry of the cache with the condition's text has a valid certificate. The others, so many, are not, and the search of each closes it within the budget.
-pub data AreKeptOrFound (es : Entries) (budget : ℕ) : List Condition → ℕ → ℕ → Type 0 where
-  none : AreKeptOrFound es budget [] 0 0
-  one_kept : (c : Condition) (cs : List Condition) (kept searched : ℕ) (steps : List Written) → IsKept es c steps
-      → AreKeptOrFound es budget cs kept searched → AreKeptOrFound es budget (c ∷ cs) (suc kept) searched
-  one_found : (c : Condition) (cs : List Condition) (kept searched leaves : ℕ) → HasNone (IsKept es c) → IsVerdict c budget (closes leaves)
-      → AreKeptOrFound es budget cs kept searched → AreKeptOrFound es budget (c ∷ cs) kept (suc searched)
+-- the condition is kept: the first entry of the cache with its text has a valid certificate; or it is not, and its search closes it within the budget
+pub data IsKeptOrFound (es : Entries) (budget : ℕ) (c : Condition) (kept searched : ℕ) (others : ℕ → ℕ → Type 0) : Type 0 where
+  is_kept : (steps : List Written) (more : ℕ) → IsKept es c steps → kept ≡ suc more → others more searched → IsKeptOrFound es budget c kept searched others
+  is_found : (leaves more : ℕ) → HasNone (IsKept es c) → IsVerdict c budget (closes leaves) → searched ≡ suc more → others kept more → IsKeptOrFound es budget c kept searched others
+
+-- of these conditions so many are kept, and the others, so many, are not, and are found
+abbrev pub AreKeptOrFound : Entries → ℕ → List Condition → ℕ → ℕ → Type 0
+AreKeptOrFound es budget [] kept searched = (kept ≡ 0) × (searched ≡ 0)
+AreKeptOrFound es budget (c ∷ cs) kept searched = IsKeptOrFound es budget c kept searched (AreKeptOrFound es budget cs)
 
 -- a program that is accepted, with the numbers of conditions that are kept and that are not
 pub record Renewal : Type 0 where

@@ -66,42 +66,30 @@ pub record LargeWhole (s : Setting) (functions seed budget steps : ℕ) (status 
   pub surely : IsTold s → (e : Entry) (of : IsLargeRun s functions seed budget e) (v : Datum) (output : List ℕ) → IsDoneWithin e steps v output
       → ShowsWhole (line_of functions (count_of of.acceptance.program) e v output) status k ⊎ (status ≡ 9)
 
--- ---- the command `prove`
+-- ---- commands that save a file
 
--- a file of the certificates that were found is saved, and the answer is shown whole; or nothing is saved, and the answer of why is
-abbrev pub ShowsProofWhole : Setting → List ℕ → ℕ → Saving → ℕ → Sinks → Came Answer → Type 0
-ShowsProofWhole s source budget v status k (Ok a) = (saved : List ℕ) × Proves s source budget saved × IsSaved v.told_before v.told_after saved × ShowsWhole a status k
-ShowsProofWhole s source budget v status k (Err a) = ShowsWhole a status k × (v.told_after ≡ v.told_before)
+-- a text that is made so is saved, and the answer is shown whole; or nothing is saved, and the answer of why is
+abbrev pub ShowsSavedWhole : (List ℕ → Type 0) → Saving → ℕ → Sinks → Came Answer → Type 0
+ShowsSavedWhole made v status k (Ok a) = (saved : List ℕ) × made saved × IsSaved v.told_before v.told_after saved × ShowsWhole a status k
+ShowsSavedWhole made v status k (Err a) = ShowsWhole a status k × (v.told_after ≡ v.told_before)
 
-pub record ProvesWhole (s : Setting) (source : List ℕ) (budget : ℕ) (v : Saving) (status : ℕ) (k : Sinks) : Type 0 where
-  pub proof : Came Answer
-  pub defined : IsDefined s (proves_file s source budget) status proof
-  pub shown : ShowsProofWhole s source budget v status k proof
-
--- ---- the command `again`
-
--- likewise, with a cache of what is kept and what was found
-abbrev pub ShowsRenewalWhole : Setting → List ℕ → List ℕ → ℕ → Saving → ℕ → Sinks → Came Answer → Type 0
-ShowsRenewalWhole s source cache budget v status k (Ok a) = (saved : List ℕ) × Renews s source cache budget saved × IsSaved v.told_before v.told_after saved × ShowsWhole a status k
-ShowsRenewalWhole s source cache budget v status k (Err a) = ShowsWhole a status k × (v.told_after ≡ v.told_before)
-
-pub record RenewsWhole (s : Setting) (source cache : List ℕ) (budget : ℕ) (v : Saving) (status : ℕ) (k : Sinks) : Type 0 where
-  pub renewal : Came Answer
-  pub defined : IsDefined s (renews_file s source cache budget) status renewal
-  pub shown : ShowsRenewalWhole s source cache budget v status k renewal
+pub record SavesWhole (s : Setting) (step : Sense → Came Answer → Type 0) (made : List ℕ → Type 0) (v : Saving) (status : ℕ) (k : Sinks) : Type 0 where
+  pub last : Came Answer
+  pub defined : IsDefined s step status last
+  pub shown : ShowsSavedWhole made v status k last
 
 -- ---- all commands
 
 abbrev pub DoesWhole : Asked → Setting → Saving → ℕ → Sinks → Type 0
 DoesWhole (check source cert budget) s v status k = AnswersWhole s (check_steps s source cert budget) status k
 DoesWhole (run source cert name arguments budget steps stats) s v status k = RunsWhole s source cert name arguments budget steps stats status k
-DoesWhole (prove source output budget) s v status k = ProvesWhole s source budget v status k
+DoesWhole (prove source output budget) s v status k = SavesWhole s (proves_file s source budget) (Proves s source budget) v status k
 DoesWhole (conds source) s v status k = AnswersWhole s (text_steps s text.Conditions source) status k
 DoesWhole (fmt source) s v status k = AnswersWhole s (text_steps s text.Layout source) status k
 DoesWhole (dis source) s v status k = AnswersWhole s (text_steps s text.Listing source) status k
 DoesWhole (big functions seed budget steps) s v status k = LargeWhole s functions seed budget steps status k
 DoesWhole (probe source name tuples ticks) s v status k = AnswersWhole s (probe_steps s source name tuples ticks) status k
-DoesWhole (again source cache budget) s v status k = RenewsWhole s source cache budget v status k
+DoesWhole (again source cache budget) s v status k = SavesWhole s (renews_file s source cache budget) (Renews s source cache budget) v status k
 
 abbrev pub DoesWholeIf : Option Asked → Setting → Saving → ℕ → Sinks → Type 0
 DoesWholeIf (Some asked) s v status k = DoesWhole asked s v status k

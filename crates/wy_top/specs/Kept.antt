@@ -16,6 +16,7 @@ use Rattle.wy_top_probe.specs.wy_top_source.wy_assign.Assigned.{IsAssigned}
 use Rattle.wy_vc.specs.wy_vc_spec.Limits.{most_conditions}
 use Rattle.wy_cert.specs.Steps.{Certificates}
 use Rattle.wy_top.specs.Owed.{Owes, told_by}
+use Rattle.wy_top.specs.Taken.{AreSomeTaken}
 use Rattle.wy_top_probe.specs.wy_top_answers.wy_vc_laws.shown.Certified.{AllHold, AreFormed}
 use Rattle.wy_term.specs.Condition.{condition_of}
 use Rattle.wy_term.specs.Nodes.{Plain}
@@ -68,6 +69,10 @@ pub record HasVerdicts (p : Program) (certs : Certificates) (budget : ℕ) (j : 
   pub formed : AreFormed (conditions_of p)
   pub count : length j.conds.list.items ≡ length (conditions_of p)
   pub told : SpellsConditions p j
+
+-- the certificates are those that are kept of the conditions that were judged
+abbrev pub AreKeptOf : Judged → ℕ → Certificates → Type 0
+AreKeptOf j budget certs = AreSomeTaken budget 1 (map (condition_of j.conds.terms) j.conds.list.items) (map known j.verdicts.items) certs
 
 -- the accepted program, with the lines for certificates that aren't valid
 abbrev pub acceptance_in : Accepted → Acceptance

@@ -38,29 +38,26 @@ pub record IsRun (s : Setting) (source cert name arguments : List ℕ) (budget s
   pub gives : Gives s (run_steps s source cert name arguments budget) launch
   pub shown : ShowsRun steps stats status k launch
 
--- ---- the command `prove`
+-- ---- commands that save a file
 
--- a file of the certificates that were found was saved, and then the answer is shown; or the answer of why there is nothing to save
-abbrev pub ShowsProof : Setting → List ℕ → List ℕ → ℕ → Saving → ℕ → Sinks → Came Answer → Type 0
-ShowsProof s source output budget v status k (Ok a) = (saved : List ℕ) × Proves s source budget saved × Saves output saved a v status k
-ShowsProof s source output budget v status k (Err a) = Shown a status k × (v.told_after ≡ v.told_before)
+-- a text that is made so was saved under the name, and then the answer is shown; or the answer of why there is nothing to save
+abbrev pub ShowsSaved : (List ℕ → Type 0) → List ℕ → Saving → ℕ → Sinks → Came Answer → Type 0
+ShowsSaved made name v status k (Ok a) = (saved : List ℕ) × made saved × Saves name saved a v status k
+ShowsSaved made name v status k (Err a) = Shown a status k × (v.told_after ≡ v.told_before)
 
-pub record IsProved (s : Setting) (source output : List ℕ) (budget : ℕ) (v : Saving) (status : ℕ) (k : Sinks) : Type 0 where
-  pub proof : Came Answer
-  pub gives : Gives s (proves_file s source budget) proof
-  pub shown : ShowsProof s source output budget v status k proof
+-- the command came to something by these steps, and shows it so
+pub record SavesBy (s : Setting) (step : Sense → Came Answer → Type 0) (made : List ℕ → Type 0) (name : List ℕ) (v : Saving) (status : ℕ) (k : Sinks) : Type 0 where
+  pub last : Came Answer
+  pub gives : Gives s step last
+  pub shown : ShowsSaved made name v status k last
 
--- ---- the command `again`
+-- a file of the certificates that were found is saved
+abbrev pub IsProved : Setting → List ℕ → List ℕ → ℕ → Saving → ℕ → Sinks → Type 0
+IsProved s source output budget = SavesBy s (proves_file s source budget) (Proves s source budget) output
 
--- a cache of what is kept and what was found was saved, and then the answer is shown; or the answer of why there is nothing to save
-abbrev pub ShowsRenewal : Setting → List ℕ → List ℕ → ℕ → Saving → ℕ → Sinks → Came Answer → Type 0
-ShowsRenewal s source cache budget v status k (Ok a) = (saved : List ℕ) × Renews s source cache budget saved × Saves cache saved a v status k
-ShowsRenewal s source cache budget v status k (Err a) = Shown a status k × (v.told_after ≡ v.told_before)
-
-pub record IsRenewed (s : Setting) (source cache : List ℕ) (budget : ℕ) (v : Saving) (status : ℕ) (k : Sinks) : Type 0 where
-  pub renewal : Came Answer
-  pub gives : Gives s (renews_file s source cache budget) renewal
-  pub shown : ShowsRenewal s source cache budget v status k renewal
+-- a cache of what is kept and what was found is saved
+abbrev pub IsRenewed : Setting → List ℕ → List ℕ → ℕ → Saving → ℕ → Sinks → Type 0
+IsRenewed s source cache budget = SavesBy s (renews_file s source cache budget) (Renews s source cache budget) cache
 
 -- ---- what is asked for
 

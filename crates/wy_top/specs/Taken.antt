@@ -20,6 +20,11 @@ AreTaken es budget n [] (k ∷ ks) certs = ⊥
 AreTaken es budget n (c ∷ cs) [] certs = ⊥
 AreTaken es budget n (c ∷ cs) (k ∷ ks) certs = (others : Certificates) × TakesRow es budget n c k others certs × AreTaken es budget (n + 1) cs ks others
 
+-- so they are, by the entries of some cache
+pub record AreSomeTaken (budget n : ℕ) (cs : List Condition) (ks : List Known) (certs : Certificates) : Type 0 where
+  pub entries : Entries
+  pub taken : AreTaken entries budget n cs ks certs
+
 -- those that wait in a list, of which the last one comes first
 abbrev pub waiting : List (ℕ × Cert) → Certificates
 waiting list = map (λ e. (e.0, steps_of e.1)) (reverse list)

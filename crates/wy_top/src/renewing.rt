@@ -3,13 +3,12 @@ ghost use Rattle.std.specs.Prelude.{◌≡◌, ◌<◌, ◌^◌, ◌+◌, ◌∷
 ghost use Rattle.wy_batch.specs.Known.{End as SeenEnd, Known, is_closed};
 ghost use Rattle.wy_batch.specs.Seen.{known, seen_end};
 ghost use Rattle.wy_batch.specs.wy_check.Within.{IsWithin};
-ghost use Rattle.wy_cache_text.specs.Files.{Entries};
 ghost use Rattle.wy_cert.specs.Steps.{NamesItsTerms, NameTheirTerms, certificates_of, steps_of};
 ghost use Rattle.wy_prove.specs.Answers.{IsFormedThroughout};
 ghost use Rattle.wy_term.specs.Condition.{Condition, condition_of};
 ghost use Rattle.wy_term.specs.Nodes.{tree_at};
 ghost use Rattle.wy_top.specs.Caches.{AreSaved, IsMade};
-ghost use Rattle.wy_top.specs.Taken.{AreTaken, waiting};
+ghost use Rattle.wy_top.specs.Taken.{AreSomeTaken, waiting};
 ghost use Rattle.wy_top_probe.specs.wy_top_answers.wy_check_spec.valid.Validity.{IsValid};
 
 use std::alloc::Global;
@@ -35,9 +34,9 @@ pub fn renewed(
     requires within { All (IsWithin (length terms.old)) conds.now }
     requires formed { All (λ c. IsFormedThroughout (condition_of terms.old c)) conds.now }
     requires named { NameTheirTerms kept }
-    ensures saved { (es : Entries) → AreTaken es budget 1 (map (condition_of terms.old) conds.now)
-        (map known verdicts.now) (certificates_of kept)
-        → IfOk result (λ certs. AreSaved 1 (map (condition_of terms.old) conds.now)
+    requires taken { AreSomeTaken budget 1 (map (condition_of terms.old) conds.now) (map known verdicts.now)
+        (certificates_of kept) }
+    ensures saved { IfOk result (λ certs. AreSaved 1 (map (condition_of terms.old) conds.now)
         (map known verdicts.now) (certificates_of certs)) }
     ensures named { IfOk result NameTheirTerms }
     ensures length { length terms.new ≡ length terms.old }
@@ -66,14 +65,12 @@ fn one_renewed(
     requires cond { IsWithin (length terms.old) cond.now }
     requires formed { IsFormedThroughout (condition_of terms.old cond.now) }
     requires named { All (λ e. NamesItsTerms e.1) left.old.items }
-    ensures made { (es : Entries) → (n : ℕ) → (cs : List Condition) → (ks : List Known) → (k : Known)
-        → seen_end end.now ≡ k.end
-        → AreTaken es budget n (condition_of terms.old cond.now ∷ cs) (k ∷ ks) (waiting left.old.items)
+    ensures made { (n : ℕ) → (cs : List Condition) → (ks : List Known) → (k : Known) → seen_end end.now ≡ k.end
+        → AreSomeTaken budget n (condition_of terms.old cond.now ∷ cs) (k ∷ ks) (waiting left.old.items)
         → IfOk result (IsMade (condition_of terms.old cond.now) k.end) }
-    ensures taken { (es : Entries) → (n : ℕ) → (cs : List Condition) → (ks : List Known) → (k : Known)
-        → seen_end end.now ≡ k.end
-        → AreTaken es budget n (condition_of terms.old cond.now ∷ cs) (k ∷ ks) (waiting left.old.items)
-        → AreTaken es budget (n + 1) cs ks (waiting left.new.items) }
+    ensures taken { (n : ℕ) → (cs : List Condition) → (ks : List Known) → (k : Known) → seen_end end.now ≡ k.end
+        → AreSomeTaken budget n (condition_of terms.old cond.now ∷ cs) (k ∷ ks) (waiting left.old.items)
+        → AreSomeTaken budget (n + 1) cs ks (waiting left.new.items) }
     ensures named { IfOk result (λ o. IfSome o NamesItsTerms) }
     ensures left { All (λ e. NamesItsTerms e.1) left.new.items }
     ensures length { length terms.new ≡ length terms.old }

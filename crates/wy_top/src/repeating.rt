@@ -2,14 +2,13 @@
 ghost use Rattle.std.specs.Prelude.{◌≡◌, ◌≤◌, ◌<◌, ◌^◌, ℕ, List, length, map, IfOk};
 ghost use Rattle.std.specs.String.{string_bytes};
 ghost use Rattle.wy_batch.specs.Seen.{known};
-ghost use Rattle.wy_cache.specs.Kept.{AreKept};
 ghost use Rattle.wy_cache_text.specs.Files.{Entries};
-ghost use Rattle.wy_cert.specs.Only.{IsTheOne};
 ghost use Rattle.wy_cert.specs.Steps.{Certificates, NameTheirTerms, certificates_of};
 ghost use Rattle.wy_top_probe.specs.wy_top_answers.Steps.{During, Gives, Setting, came};
 ghost use Rattle.wy_top.specs.Acceptance.{are_closed as are_closed_in};
 ghost use Rattle.wy_top.specs.Again as spec;
-ghost use Rattle.wy_top.specs.Kept.{AreEach, HasVerdicts, IsKept, answer_in, entries_in, program_in};
+ghost use Rattle.wy_top.specs.Caches.{AreSeen};
+ghost use Rattle.wy_top.specs.Kept.{AreEach, AreKeptOf, HasVerdicts, IsKept, answer_in, entries_in, program_in};
 ghost use Rattle.wy_top.specs.Programs.{Program, conditions_of};
 
 use crate::caching::cache_in;
@@ -78,8 +77,9 @@ fn answer_of(
 fn saved(alloc: Global, judged: Judged, kept: Certs, budget: u64) -> Result<Bytes, NoMemory>
     requires each { AreEach judged }
     requires named { NameTheirTerms kept }
-    ensures file { (p : Program) → (es : Entries) → HasVerdicts p (certificates_of kept) budget judged
-        → IsTheOne (AreKept es 1 (conditions_of p)) (certificates_of kept)
+    requires taken { AreKeptOf judged budget (certificates_of kept) }
+    ensures file { (p : Program) → (certs : Certificates) → (es : Entries) → HasVerdicts p certs budget judged
+        → AreSeen es budget (conditions_of p) (map known judged.verdicts.items)
         → IfOk result (spec.IsCacheOf p budget es) }
 {
     let Judged {
@@ -110,11 +110,12 @@ fn made(
 ) -> Result<Proof, NoMemory>
     requires each { AreEach judged }
     requires named { NameTheirTerms kept }
-    ensures value { (p : Program) → (es : Entries) → HasVerdicts p (certificates_of kept) budget judged
-        → IsTheOne (AreKept es 1 (conditions_of p)) (certificates_of kept)
+    requires taken { AreKeptOf judged budget (certificates_of kept) }
+    ensures value { (p : Program) → (certs : Certificates) → (es : Entries) → HasVerdicts p certs budget judged
+        → AreSeen es budget (conditions_of p) (map known judged.verdicts.items)
         → IfOk result (λ f. spec.IsRenewal name.now bytes.now p budget es f.answer) }
-    ensures file { (p : Program) → (es : Entries) → HasVerdicts p (certificates_of kept) budget judged
-        → IsTheOne (AreKept es 1 (conditions_of p)) (certificates_of kept)
+    ensures file { (p : Program) → (certs : Certificates) → (es : Entries) → HasVerdicts p certs budget judged
+        → AreSeen es budget (conditions_of p) (map known judged.verdicts.items)
         → IfOk result (λ f. spec.IsCacheOf p budget es f.saved) }
 {
     let answer = answer_of(alloc, name, bytes, budget, &judged, kept.list.len() as u32)?;
