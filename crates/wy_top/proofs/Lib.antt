@@ -22,6 +22,7 @@ pub mod GivenLemmas
 pub mod TakenLemmas
 pub mod CachingLemmas
 pub mod RenewLemmas
+pub mod RepeatLemmas
 -- they are read again
 pub mod WritableLemmas
 -- they are accepted

@@ -1,8 +1,11 @@
 -- The certificates that are saved, one after the other.
-use Rattle.std.proofs.Common.{◌≡◌, ◌∙◌, ◌+◌, ◌<◌, ◌≤◌, ℕ, suc, List, [], ◌∷◌, ◌++◌, All, length, map, Bool, true, false, Option, Some, None, refl, sym, ap, subst, arith, append_assoc}
+use Rattle.std.proofs.Common.{◌≡◌, ◌∙◌, ◌+◌, ◌<◌, ◌≤◌, ℕ, suc, List, [], ◌∷◌, ◌++◌, All, drop, get_or, length, map, Bool, true, false, Option, Some, None, refl, sym, ap, subst, arith, append_assoc}
 use Rattle.std.proofs.lemmas.List.{append-nil, reverse-append, reverse-reverse}
 use Rattle.std.specs.Prelude.{IfOk, IfSome, Result, Ok, Err, reverse}
 use Rattle.wy_batch.specs.Known.{End, IsSearched, Known, end_of, found, is_closed, is_found, supplied}
+use Rattle.wy_batch.specs.Seen.{known}
+use Rattle.wy_batch.specs.declared.verdict.Verdict.{Verdict}
+use Rattle.wy_cache.proofs.KeptLemmas.{drop_mapped, none_dropped}
 use Rattle.wy_cache.specs.Kept.{IsKept}
 use Rattle.wy_cache_text.specs.Files.{Entries}
 use Rattle.wy_cert.specs.Steps.{Certificates, Written, steps_of}
@@ -11,9 +14,10 @@ use Rattle.wy_prove.specs.Answers.{AnswersWhatIsFound}
 use Rattle.wy_prove.specs.wy_search_spec.Tree as search
 use Rattle.wy_prove_writable.specs.Writable.{AreWritable}
 use Rattle.wy_term.specs.Condition.{Condition}
+use Rattle.wy_term.specs.declared.cond.Cond.{Cond}
 use Rattle.wy_top_probe.specs.wy_top_answers.wy_check_spec.valid.Validity.{IsValid}
 use Rattle.wy_top.specs.Caches.{AreSaved, IsMade, IsRenewed, IsSavedRow, IsUnspelled, entry, is_kept, no_entry}
-use Rattle.wy_top.specs.Taken.{AreTaken, TakesRow, not_taken, taken, waiting}
+use Rattle.wy_top.specs.Taken.{AreSomeTaken, AreTaken, TakesRow, not_taken, taken, waiting}
 use Rattle.wy_top.proofs.TakenLemmas.{never_kept}
 
 -- ---- lists that wait
@@ -102,13 +106,43 @@ other_made c e apart = λ closed. absurd (cc)
 
 -- ---- the list of a cache
 
-module _ (whole : Certificates → Type 0) (n : ℕ) (c : Condition) (k : Known) (cs : List Condition) (ks : List Known) (done : Certificates) where
-  -- what may follow those that are done
-  abbrev pub Follows : ℕ → List Condition → List Known → Certificates → Type 0
-  Follows m ds ls front = (others : Certificates) → AreSaved m ds ls others → whole (front ++ others)
+-- what may follow those that are done
+abbrev pub Follows : (Certificates → Type 0) → ℕ → List Condition → List Known → Certificates → Type 0
+Follows whole n cs ks done = (others : Certificates) → AreSaved n cs ks others → whole (done ++ others)
 
-  pub saves_one : (cert : Cert) → IsMade c k.end (Some cert) → Follows n (c ∷ cs) (k ∷ ks) done → Follows (n + 1) cs ks (done ++ (n, steps_of cert) ∷ [])
+module _ (whole : Certificates → Type 0) (n : ℕ) (c : Condition) (k : Known) (cs : List Condition) (ks : List Known) (done : Certificates) where
+  pub saves_one : (cert : Cert) → IsMade c k.end (Some cert) → Follows whole n (c ∷ cs) (k ∷ ks) done → Follows whole (n + 1) cs ks (done ++ (n, steps_of cert) ∷ [])
   saves_one cert made so_far others h = subst whole (sym (append_assoc done ((n, steps_of cert) ∷ []) others)) (so_far ((n, steps_of cert) ∷ others) (others, entry (steps_of cert) made refl, h))
 
-  pub saves_none : IsMade c k.end None → Follows n (c ∷ cs) (k ∷ ks) done → Follows (n + 1) cs ks done
+  pub saves_none : IsMade c k.end None → Follows whole n (c ∷ cs) (k ∷ ks) done → Follows whole (n + 1) cs ks done
   saves_none made so_far others h = so_far others (others, no_entry made refl, h)
+
+-- ---- turns
+
+module _ (of : Cond → Condition) (conds : List Cond) (vs : List Verdict) (i : ℕ) (cond : Cond) (v : Verdict) (lc : i < length conds) (lv : i < length vs) (at : cond ≡ get_or conds i cond) (there : v ≡ get_or vs i v) where
+  abbrev cs : List Condition
+  cs = drop (i + 1) (map of conds)
+
+  abbrev ks : List Known
+  ks = drop (i + 1) (map known vs)
+
+  -- the condition that comes next, and those behind it
+  parted : (P : List Condition → List Known → Type 0) → P (drop i (map of conds)) (drop i (map known vs)) → P (of cond ∷ cs) (known v ∷ ks)
+  parted P h =
+      subst (λ (ds : List Condition). P ds (known v ∷ ks)) (drop_mapped of conds i cond lc at)
+      (subst (λ (ls : List Known). P (drop i (map of conds)) ls) (drop_mapped known vs i v lv there) h)
+
+  pub next_taken : (budget : ℕ) (certs : Certificates) → AreSomeTaken budget (i + 1) (drop i (map of conds)) (drop i (map known vs)) certs → AreSomeTaken budget (i + 1) (of cond ∷ cs) (known v ∷ ks) certs
+  next_taken budget certs h = parted (λ ds ls. AreSomeTaken budget (i + 1) ds ls certs) h
+
+  pub next_follows : (whole : Certificates → Type 0) (done : Certificates) → Follows whole (i + 1) (drop i (map of conds)) (drop i (map known vs)) done → Follows whole (i + 1) (of cond ∷ cs) (known v ∷ ks) done
+  next_follows whole done h = parted (λ ds ls. Follows whole (i + 1) ds ls done) h
+
+-- behind the last one nothing follows
+pub none_follows : (whole : Certificates → Type 0) (of : Cond → Condition) (conds : List Cond) (vs : List Verdict) (i : ℕ) (done : Certificates) → length conds ≤ i → length vs ≤ i
+    → Follows whole (i + 1) (drop i (map of conds)) (drop i (map known vs)) done → whole done
+none_follows whole of conds vs i done lc lv h =
+    let ended : Follows whole (i + 1) [] [] done =
+    subst (λ (ds : List Condition). Follows whole (i + 1) ds [] done) (none_dropped of conds i lc)
+    (subst (λ (ls : List Known). Follows whole (i + 1) (drop i (map of conds)) ls done) (none_dropped known vs i lv) h) in
+    subst whole (append-nil done) (ended [] refl)
