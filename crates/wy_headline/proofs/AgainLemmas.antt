@@ -18,7 +18,7 @@ use Rattle.wy_top.proofs.TakenLemmas.{never_kept}
 use Rattle.wy_top.specs.Acceptance.{are_closed}
 use Rattle.wy_top.specs.Again.{IsRenewal, accepted_line, renewal_answer, renews, renews_file}
 use Rattle.wy_top.specs.Again as again
-use Rattle.wy_top.specs.Caches.{AreSeen, IsSeen, caches, from_bytes, is_kept, kept, searched, too_long, without}
+use Rattle.wy_top.specs.Caches.{AreSeen, IsCache, IsSeen, from_bytes, is_kept, kept, searched, too_long, without}
 use Rattle.wy_top.specs.Owed.{told_by}
 use Rattle.wy_top.specs.Programs.{Program, conditions_of, count_of}
 use Rattle.wy_top.specs.Refusals.{refusal_lines}
@@ -35,7 +35,7 @@ use Rattle.wy_headline.proofs.StepLemmas.{Refuses, alone_refused, both_came, by_
 -- ---- answers
 
 module _ (P : Answer → Type 0) (c : Refuses P) where
-  caches_refused : (s : Setting) (name : List ℕ) (a : Answer) → caches s name (Err a) → P a
+  caches_refused : (s : Setting) (name : List ℕ) (a : Answer) → IsCache s name (Err a) → P a
   caches_refused s name a (from_bytes bytes es loads read is) = absurd (no_value es a is)
   caches_refused s name a (without fails is) = absurd (no_value [] a is)
   caches_refused s name a (too_long fails is) = subst P (sym (err_is a _ is)) (c.not_loaded load.TooLong name)
@@ -195,8 +195,8 @@ module _ (s : Setting) (source cache : List ℕ) (budget : ℕ) (v : Saving) (st
 
   -- ---- what is due comes
 
-  renewal_due : (r : Renewal) → Renews s source cache budget r → renews_file s source cache budget due (Ok (line_of r))
-  renewal_due r h =
+  renewal_due : IsTold s source → IsTold s cache → (r : Renewal) → Renews s source cache budget r → renews_file s source cache budget due (Ok (line_of r))
+  renewal_due here there r h =
       let w = whole_of h.entries budget (conditions_of r.program) r.kept r.searched h.closed in
       let step : renews source h.bytes r.program budget h.entries due (Ok (line_of r)) = record {
         verdicts = w.verdicts;
@@ -206,7 +206,7 @@ module _ (s : Setting) (source cache : List ℕ) (budget : ℕ) (v : Saving) (st
             ∙ ap (λ (m : ℕ). written (accepted_line (count_of r.program) m)) (sym w.many)
             ∙ sym (ap (λ (x : Bool). renewal_answer source h.bytes r.program budget (count is_kept w.verdicts) w.verdicts x) w.closed);
       } in
-      goes_on h.bytes (alone_due s source h.bytes h.alone) (goes_on r.program h.owes (goes_on h.entries h.cached step))
+      goes_on h.bytes (alone_due s source h.bytes here h.alone) (goes_on r.program h.owes (goes_on h.entries (there, h.cached) step))
 
   abbrev Comes : Answer → Type 0
   Comes a = ShowsWhole a status k ⊎ IsUnsaved s cache status k
@@ -242,7 +242,7 @@ module _ (s : Setting) (source cache : List ℕ) (budget : ℕ) (v : Saving) (st
   means : IsRenewed s source cache budget v status k → MeansAgain s source cache budget status k
   means h = record {
     accepted = by_last h.last h.gives.comes h.shown;
-    accepted_where = λ told r file. by_due h.last (line_of r) h.gives.comes h.shown (h.gives.only told (Ok (line_of r)) (renewal_due r file));
+    accepted_where = λ here there r file. by_due h.last (line_of r) h.gives.comes h.shown (h.gives.only (Ok (line_of r)) (renewal_due here there r file));
   }
 
 pub renewals_right : RenewalsAreRight

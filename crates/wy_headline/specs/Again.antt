@@ -10,7 +10,7 @@ use Rattle.wy_top.specs.wy_cert.Steps.{Written}
 use Rattle.wy_top.specs.wy_link_load.Alone.{IsAlone}
 use Rattle.wy_top.specs.wy_top_answers.Answers.{refused, written}
 use Rattle.wy_top.specs.wy_top_answers.Showing.{ShowsWhole, Sinks}
-use Rattle.wy_top.specs.wy_top_answers.Steps.{IsTold, Setting}
+use Rattle.wy_top.specs.wy_top_answers.Steps.{IsTold, Setting, stated}
 use Rattle.wy_top.specs.wy_top_answers.declared.answer.Answer.{Answer}
 use Rattle.wy_top.specs.wy_top_answers.report.Lines.{line, save_failed}
 use Rattle.wy_top.specs.Caches.{caches}
@@ -42,7 +42,7 @@ pub record Renews (s : Setting) (source cache : List ℕ) (budget : ℕ) (r : Re
   pub alone : IsAlone s source bytes
   pub owes : Owes bytes r.program.core r.program.flow
   pub entries : Entries
-  pub cached : caches s cache (Ok entries)
+  pub cached : caches s cache stated (Ok entries)
   pub closed : AreKeptOrFound entries budget (conditions_of r.program) r.kept r.searched
 
 -- the line that says so
@@ -53,10 +53,10 @@ line_of r = written (line (codes "accepted " ∷ decimal (count_of r.program) �
 abbrev pub IsUnsaved : Setting → List ℕ → ℕ → Sinks → Type 0
 IsUnsaved s cache status k = IsCutShort s status k ⊎ ShowsWhole (refused 5 (save_failed cache)) status k
 
--- Whatever the bytes of the cache: status 0 comes only where the program is accepted so, with its line; and where files are told and it is, that is what comes, but for what cuts it short and for a save that fails.
+-- Whatever the bytes of the cache: status 0 comes only where the program is accepted so, with its line; and where both files are told and it is, that is what comes, but for what cuts it short and for a save that fails.
 pub record MeansAgain (s : Setting) (source cache : List ℕ) (budget status : ℕ) (k : Sinks) : Type 0 where
   pub accepted : status ≡ 0 → (r : Renewal) × Renews s source cache budget r × ShowsWhole (line_of r) status k
-  pub accepted_where : IsTold s → (r : Renewal) → Renews s source cache budget r → ShowsWhole (line_of r) status k ⊎ IsUnsaved s cache status k
+  pub accepted_where : IsTold s source → IsTold s cache → (r : Renewal) → Renews s source cache budget r → ShowsWhole (line_of r) status k ⊎ IsUnsaved s cache status k
 
 -- so it is with each renewal that the words ask for
 abbrev pub RenewalsAreRight : Type 0

@@ -88,4 +88,4 @@ only_renewal name bytes p budget es a is (Ok b) h =
 only_renewal name bytes p budget es a is (Err b) h = absurd h
 
 pub renewal_gives : (s : Setting) (name bytes : List ℕ) (p : Program) (budget : ℕ) (es : Entries) (a : Answer) → IsRenewal name bytes p budget es a → Gives s (renews name bytes p budget es) (Ok a)
-renewal_gives s name bytes p budget es a is = value_gives s (renews name bytes p budget es) a is (λ told other h. only_renewal name bytes p budget es a is other h)
+renewal_gives s name bytes p budget es a is = value_gives s (renews name bytes p budget es) a is (λ other h. only_renewal name bytes p budget es a is other h)

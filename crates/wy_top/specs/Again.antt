@@ -8,7 +8,7 @@ use Rattle.wy_cache_text.specs.Written.{IsLongest}
 use Rattle.wy_cert.specs.Steps.{Certificates}
 use Rattle.wy_top_probe.specs.wy_link_load.Alone.{IsAlone, loads_alone}
 use Rattle.wy_top_probe.specs.wy_top_answers.Answers.{refused, written}
-use Rattle.wy_top_probe.specs.wy_top_answers.Steps.{Came, Sense, Setting, and_then, both}
+use Rattle.wy_top_probe.specs.wy_top_answers.Steps.{Came, Sense, Setting, and_then, stated}
 use Rattle.wy_top_probe.specs.wy_top_answers.declared.answer.Answer.{Answer}
 use Rattle.wy_top_probe.specs.wy_top_answers.report.Lines.{line}
 use Rattle.wy_top.specs.Acceptance.{are_closed}
@@ -42,7 +42,7 @@ renews name bytes p budget es m (Err a) = ⊥
 
 -- the cache, and what it shows of the program
 abbrev pub renews_with : Setting → List ℕ → List ℕ → ℕ → List ℕ → Program → Sense → Came Answer → Type 0
-renews_with s name cache budget bytes p = and_then (both (caches s cache)) (renews name bytes p budget)
+renews_with s name cache budget bytes p = and_then (caches s cache) (renews name bytes p budget)
 
 abbrev pub renews_source : Setting → List ℕ → List ℕ → ℕ → List ℕ → Sense → Came Answer → Type 0
 renews_source s name cache budget bytes = and_then (owes name bytes) (renews_with s name cache budget bytes)
@@ -64,7 +64,7 @@ pub record IsCacheOf (p : Program) (budget : ℕ) (es : Entries) (text : List �
 -- it is one of the program, with the cache in this file
 pub record RenewsProgram (s : Setting) (cache : List ℕ) (budget : ℕ) (p : Program) (text : List ℕ) : Type 0 where
   pub entries : Entries
-  pub cached : caches s cache (Ok entries)
+  pub cached : caches s cache stated (Ok entries)
   pub file : IsCacheOf p budget entries text
 
 -- it is one of the program of the source with these bytes

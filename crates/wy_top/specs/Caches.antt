@@ -11,17 +11,22 @@ use Rattle.wy_prove_writable.specs.Writable.{AreWritable}
 use Rattle.wy_term.specs.Condition.{Condition}
 use Rattle.wy_top_probe.specs.wy_top_answers.Answers.{refused}
 use Rattle.wy_top_probe.specs.wy_top_answers.Loading.{LoadFails, Loads, certificate_limit}
-use Rattle.wy_top_probe.specs.wy_top_answers.Steps.{Came, Setting}
+use Rattle.wy_top_probe.specs.wy_top_answers.Steps.{Came, IsTold, Sense, Setting, due, stated}
 use Rattle.wy_top_probe.specs.wy_top_answers.Texts.{load_text}
 use Rattle.wy_top_probe.specs.wy_top_answers.wy_check_spec.valid.Validity.{IsValid}
 
 -- ---- the file
 
 -- the entries of the file with this name: those that its bytes are read as, and none where there is no file; or that it is too long
-pub data caches (s : Setting) (name : List ℕ) (r : Came Entries) : Type 0 where
-  from_bytes : (bytes : List ℕ) (es : Entries) → Loads s name certificate_limit bytes → IsReadAs bytes es → r ≡ Ok es → caches s name r
-  without : LoadFails s name certificate_limit Absent → r ≡ Ok [] → caches s name r
-  too_long : LoadFails s name certificate_limit TooLong → r ≡ Err (refused 10 (load_text name TooLong)) → caches s name r
+pub data IsCache (s : Setting) (name : List ℕ) (r : Came Entries) : Type 0 where
+  from_bytes : (bytes : List ℕ) (es : Entries) → Loads s name certificate_limit bytes → IsReadAs bytes es → r ≡ Ok es → IsCache s name r
+  without : LoadFails s name certificate_limit Absent → r ≡ Ok [] → IsCache s name r
+  too_long : LoadFails s name certificate_limit TooLong → r ≡ Err (refused 10 (load_text name TooLong)) → IsCache s name r
+
+-- loading a cache; what it comes to is due where the file is told
+abbrev pub caches : Setting → List ℕ → Sense → Came Entries → Type 0
+caches s name stated r = IsCache s name r
+caches s name due r = IsTold s name × IsCache s name r
 
 -- ---- verdicts
 

@@ -3,7 +3,7 @@ ghost use Rattle.std.specs.Prelude.{◌≡◌, ◌≤◌, ℕ, List, IfOk, IfErr
 ghost use Rattle.wy_cache_text.specs.Files.{IsReadAs};
 ghost use Rattle.wy_cache_text.specs.Seen.{all_held};
 ghost use Rattle.wy_top_probe.specs.wy_top_answers.Answers as answers;
-ghost use Rattle.wy_top_probe.specs.wy_top_answers.Steps.{During, Gives, both, came};
+ghost use Rattle.wy_top_probe.specs.wy_top_answers.Steps.{During, Gives, came};
 ghost use Rattle.wy_top.specs.Caches.{caches};
 ghost use Rattle.wy_top.specs.Kept.{entries_in};
 
@@ -33,10 +33,10 @@ fn read(alloc: Global, bytes: &[u8]) -> Result<Cache, Answer>
 pub fn cache_in<F: Files>(alloc: Global, name: &str, files: &mut F) -> Result<Cache, Answer>
     ensures gives { During (F.told files.old) (F.load_faults files.old) (F.load_faults files.new)
         (F.misses files.old) (F.misses files.new)
-        (λ s. Gives s (both (caches s name.now)) (came entries_in result)) }
+        (λ s. Gives s (caches s name.now) (came entries_in result)) }
     ensures kept { (other : List ℕ) → F.told files.new other ≡ F.told files.old other }
-    ensures load_count { F.load_faults files.old ≤ F.load_faults files.new }
-    ensures miss_count { F.misses files.old ≤ F.misses files.new }
+    ensures load_count { (other : List ℕ) → F.load_faults files.old other ≤ F.load_faults files.new other }
+    ensures miss_count { (other : List ℕ) → F.misses files.old other ≤ F.misses files.new other }
     ensures save_count { F.save_faults files.new ≡ F.save_faults files.old }
 {
     match load(alloc, name, CACHE_LIMIT, files) {

@@ -174,8 +174,8 @@ fn renew_with<R: Threads + Sync, F: Files>(
         (F.misses files.old) (F.misses files.new)
         (λ s. IfOk result (λ f. spec.RenewsProgram s cache.now budget (program_in owed) f.saved)) }
     ensures kept { (other : List ℕ) → F.told files.new other ≡ F.told files.old other }
-    ensures load_count { F.load_faults files.old ≤ F.load_faults files.new }
-    ensures miss_count { F.misses files.old ≤ F.misses files.new }
+    ensures load_count { (other : List ℕ) → F.load_faults files.old other ≤ F.load_faults files.new other }
+    ensures miss_count { (other : List ℕ) → F.misses files.old other ≤ F.misses files.new other }
     ensures save_count { F.save_faults files.new ≡ F.save_faults files.old }
 {
     match cache_in(alloc, cache, files) {
@@ -204,8 +204,8 @@ fn renew_source<R: Threads + Sync, F: Files>(
         (F.misses files.old) (F.misses files.new)
         (λ s. IfOk result (λ f. spec.RenewsBytes s cache.now budget bytes.now f.saved)) }
     ensures kept { (other : List ℕ) → F.told files.new other ≡ F.told files.old other }
-    ensures load_count { F.load_faults files.old ≤ F.load_faults files.new }
-    ensures miss_count { F.misses files.old ≤ F.misses files.new }
+    ensures load_count { (other : List ℕ) → F.load_faults files.old other ≤ F.load_faults files.new other }
+    ensures miss_count { (other : List ℕ) → F.misses files.old other ≤ F.misses files.new other }
     ensures save_count { F.save_faults files.new ≡ F.save_faults files.old }
 {
     match owed_by(alloc, name, bytes) {
@@ -233,8 +233,8 @@ pub fn renew_file<R: Threads + Sync, F: Files>(
         (F.misses files.old) (F.misses files.new)
         (λ s. IfOk result (λ f. spec.Renews s name.now cache.now budget f.saved)) }
     ensures kept { (other : List ℕ) → F.told files.new other ≡ F.told files.old other }
-    ensures load_count { F.load_faults files.old ≤ F.load_faults files.new }
-    ensures miss_count { F.misses files.old ≤ F.misses files.new }
+    ensures load_count { (other : List ℕ) → F.load_faults files.old other ≤ F.load_faults files.new other }
+    ensures miss_count { (other : List ℕ) → F.misses files.old other ≤ F.misses files.new other }
     ensures save_count { F.save_faults files.new ≡ F.save_faults files.old }
 {
     match load_alone(alloc, name, files) {
