@@ -23,6 +23,7 @@ pub mod TakenLemmas
 pub mod CachingLemmas
 pub mod RenewLemmas
 pub mod RepeatLemmas
+pub mod KeepLemmas
 -- they are read again
 pub mod WritableLemmas
 -- they are accepted

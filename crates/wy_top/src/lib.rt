@@ -50,7 +50,9 @@ mod texts;
 mod verdict_laws;
 mod writing;
 
-pub use certificate_laws::{found_certificates_are_valid, saved_certificates_are_accepted};
+pub use certificate_laws::{
+    found_certificates_are_valid, renewed_caches_keep_all, saved_certificates_are_accepted,
+};
 pub use code_laws::the_code_of_a_source_is_loadable;
 pub use command_laws::commands_are_exact;
 pub use commands::run_words;
