@@ -141,16 +141,17 @@ rows_writable n (c ∷ cs) (d ∷ ds) h = (row_writable c d.1 h.1, rows_writable
 
 first_is : (before : List (List ℕ)) (rows : List Row) (key : List ℕ) → is_among before key ≡ false → steps_for (map held_row (once_behind before rows)) key ≡ steps_for (map held_row rows) key
 first_is before [] key none = refl
-first_is before (r ∷ rs) key none = by (is_among before r.key) refl (bytes_eq r.key key) refl
+first_is before (r ∷ rs) key none = by (first_is (r.key ∷ before) rs key) (is_among before r.key) refl (bytes_eq r.key key) refl
   where
-    by : (b : Bool) → is_among before r.key ≡ b → (same : Bool) → bytes_eq r.key key ≡ same
+    by : (is_among (r.key ∷ before) key ≡ false → steps_for (map held_row (once_behind (r.key ∷ before) rs)) key ≡ steps_for (map held_row rs) key)
+        → (b : Bool) → is_among before r.key ≡ b → (same : Bool) → bytes_eq r.key key ≡ same
         → steps_for (map held_row (cond b (once_behind (r.key ∷ before) rs) (r ∷ once_behind (r.key ∷ before) rs))) key ≡ cond same (let s : Option (List ℕ) = Some r.steps in s) (steps_for (map held_row rs) key)
-    by true there true same = let was : is_among before key ≡ true = ap (is_among before) (sym (bytes_are r.key key same)) ∙ there in absurd (cc)
-    by true there false other = first_is (r.key ∷ before) rs key (ap (λ (b : Bool). b || is_among before key) other ∙ none)
-    by false there true same = ap (λ (b : Bool). cond b (let s : Option (List ℕ) = Some r.steps in s) (steps_for (map held_row (once_behind (r.key ∷ before) rs)) key)) same
-    by false there false other =
+    by later true there true same = let was : is_among before key ≡ true = ap (is_among before) (sym (bytes_are r.key key same)) ∙ there in absurd (cc)
+    by later true there false other = later (ap (λ (b : Bool). b || is_among before key) other ∙ none)
+    by later false there true same = ap (λ (b : Bool). cond b (let s : Option (List ℕ) = Some r.steps in s) (steps_for (map held_row (once_behind (r.key ∷ before) rs)) key)) same
+    by later false there false other =
         ap (λ (b : Bool). cond b (let s : Option (List ℕ) = Some r.steps in s) (steps_for (map held_row (once_behind (r.key ∷ before) rs)) key)) other
-        ∙ first_is (r.key ∷ before) rs key (ap (λ (b : Bool). b || is_among before key) other ∙ none)
+        ∙ later (ap (λ (b : Bool). b || is_among before key) other ∙ none)
 
 -- ---- each is kept
 
@@ -164,17 +165,17 @@ found_by : (n : ℕ) (cs : List Condition) (certs : Certificates) (c : Condition
 unfolding rows_by
 found_by n [] certs c h told among = absurd among
 found_by n (d ∷ ds) [] c h told among = absurd h
-found_by n (d ∷ ds) (e ∷ es) c h told among = by (bytes_eq (key_of d) (key_of c)) refl among
+found_by n (d ∷ ds) (e ∷ es) c h told among = by (found_by (n + 1) ds es c h.2 (λ x in_ds same. told x (inr in_ds) same)) (bytes_eq (key_of d) (key_of c)) refl among
   where
-    by : (same : Bool) → bytes_eq (key_of d) (key_of c) ≡ same → IsAmong c (d ∷ ds) → IsFoundBy (row_of d e.1 ∷ rows_by ds es) c
-    by true same there = record {
+    by : (IsAmong c ds → IsFoundBy (rows_by ds es) c) → (same : Bool) → bytes_eq (key_of d) (key_of c) ≡ same → IsAmong c (d ∷ ds) → IsFoundBy (row_of d e.1 ∷ rows_by ds es) c
+    by later true same there = record {
       steps = e.1;
       entered = subst (λ (x : Condition). IsEntered x e.1) (told d (inl refl) (bytes_are (key_of d) (key_of c) same)) h.1;
       found = ap (λ (b : Bool). cond b (let s : Option (List ℕ) = Some (texts line_text e.1) in s) (steps_for (map held_row (rows_by ds es)) (key_of c))) same;
     }
-    by false other (inl is) = let same : bytes_eq (key_of d) (key_of c) ≡ true = ap (λ (x : Condition). bytes_eq (key_of d) (key_of x)) is ∙ bytes_self (key_of d) in absurd (cc)
-    by false other (inr there) =
-        let f = found_by (n + 1) ds es c h.2 (λ x in_ds same. told x (inr in_ds) same) there in
+    by later false other (inl is) = let same : bytes_eq (key_of d) (key_of c) ≡ true = ap (λ (x : Condition). bytes_eq (key_of d) (key_of x)) is ∙ bytes_self (key_of d) in absurd (cc)
+    by later false other (inr there) =
+        let f = later there in
         record {
           steps = f.steps;
           entered = f.entered;

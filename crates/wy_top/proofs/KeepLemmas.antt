@@ -28,14 +28,14 @@ all_entered : (n : ℕ) (cs : List Condition) (ks : List Known) (certs : Certifi
 all_entered n [] [] certs h many spelled = h
 all_entered n [] (k ∷ ks) certs h many spelled = absurd h
 all_entered n (c ∷ cs) [] certs h many spelled = absurd h
-all_entered n (c ∷ cs) (k ∷ ks) certs h many spelled = by h.0 h.1 h.2
+all_entered n (c ∷ cs) (k ∷ ks) certs h many spelled = by (λ others rest long. all_entered (n + 1) cs ks others rest long spelled.1) h.0 h.1 h.2
   where
-    by : (others : Certificates) → IsSavedRow n c k.end others certs → AreSaved (n + 1) cs ks others → AreEntered n (c ∷ cs) certs
-    by others (entry steps g is) rest =
+    by : ((others : Certificates) → AreSaved (n + 1) cs ks others → length others ≡ length cs → AreEntered (n + 1) cs others) → (others : Certificates) → IsSavedRow n c k.end others certs → AreSaved (n + 1) cs ks others → AreEntered n (c ∷ cs) certs
+    by later others (entry steps g is) rest =
         let long : suc (length others) ≡ suc (length cs) = sym (ap (λ (ds : Certificates). length ds) is) ∙ many in
         subst (AreEntered n (c ∷ cs)) (sym is)
-        (refl, record { formulas = spelled.0; valid = g.valid; trees = valid_is_one_tree c steps g.valid; writable = g.writable }, all_entered (n + 1) cs ks others rest (omega (arith, long)) spelled.1)
-    by others (no_entry un is) rest = let few = saved_few (n + 1) cs ks others rest in let long = ap (λ (ds : Certificates). length ds) is in absurd (omega (arith, few, long, many))
+        (refl, record { formulas = spelled.0; valid = g.valid; trees = valid_is_one_tree c steps g.valid; writable = g.writable }, later others rest (omega (arith, long)))
+    by later others (no_entry un is) rest = let few = saved_few (n + 1) cs ks others rest in let long = ap (λ (ds : Certificates). length ds) is in absurd (omega (arith, few, long, many))
 
 -- ---- where all are kept
 

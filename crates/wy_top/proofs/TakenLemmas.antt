@@ -105,11 +105,11 @@ taken_count es budget n (c ∷ cs) (k ∷ ks) certs h = row_count es budget n (c
 
 pub count_within : (test : End → Bool) (ks : List Known) → count test ks ≤ length ks
 count_within test [] = omega arith
-count_within test (k ∷ ks) = either (test k.end)
+count_within test (k ∷ ks) = either (test k.end) (count_within test ks)
   where
-    either : (b : Bool) → cond b (suc (count test ks)) (count test ks) ≤ suc (length ks)
-    either true = let le = count_within test ks in omega (arith, le)
-    either false = let le = count_within test ks in omega (arith, le)
+    either : (b : Bool) → count test ks ≤ length ks → cond b (suc (count test ks)) (count test ks) ≤ suc (length ks)
+    either true le = omega (arith, le)
+    either false le = omega (arith, le)
 
 -- ---- there is one list
 
