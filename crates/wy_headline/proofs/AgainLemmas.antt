@@ -58,10 +58,10 @@ renewal_bad s source cache budget a h = renewal_refused Apart none_is s source c
 -- ---- what is closed is kept or found
 
 -- so many are kept, and the others are found
-record IsSplit (es : Entries) (budget : ℕ) (cs : List Condition) (kept : ℕ) : Type 0 where
+record IsSplit (es : Entries) (budget : ℕ) (cs : List Condition) (m : ℕ) : Type 0 where
   found : ℕ
-  are : AreKeptOrFound es budget cs kept found
-  sum : kept + found ≡ length cs
+  are : AreKeptOrFound es budget cs m found
+  sum : m + found ≡ length cs
 
 found_leaves : (c : Condition) (budget : ℕ) (v : search.Verdict) → IsVerdict c budget v → is_closed (end_of v) ≡ true → (leaves : ℕ) × IsVerdict c budget (search.found leaves)
 found_leaves c budget (search.found leaves) h closed = (leaves, h)
@@ -88,12 +88,12 @@ all_split es budget (c ∷ cs) (k ∷ ks) h closed =
 -- ---- what is kept or found is closed
 
 -- what is known of the conditions then
-record IsWhole (es : Entries) (budget : ℕ) (cs : List Condition) (kept found : ℕ) : Type 0 where
+record IsWhole (es : Entries) (budget : ℕ) (cs : List Condition) (m n : ℕ) : Type 0 where
   verdicts : List Known
   seen : AreSeen es budget cs verdicts
   closed : are_closed verdicts ≡ true
-  many : count is_kept verdicts ≡ kept
-  sum : kept + found ≡ length cs
+  many : count is_kept verdicts ≡ m
+  sum : m + n ≡ length cs
 
 one_whole : (es : Entries) (budget : ℕ) (c : Condition) (cs : List Condition) (m n : ℕ) → ((a b : ℕ) → AreKeptOrFound es budget cs a b → IsWhole es budget cs a b) → IsKeptOrFound es budget c m n (AreKeptOrFound es budget cs) → IsWhole es budget (c ∷ cs) m n
 one_whole es budget c cs m n later (row_kept steps more h is rest) =

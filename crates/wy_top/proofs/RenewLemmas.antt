@@ -35,8 +35,17 @@ turned list left is = ap waiting is ∙ ap (λ (l : List (ℕ × Cert)). map pai
 
 -- ---- the condition that comes next
 
+steps_or : List Written → Certificates → List Written
+steps_or d [] = d
+steps_or d (c ∷ cs) = c.1
+
+rest_or : Certificates → Certificates → Certificates
+rest_or d [] = d
+rest_or d (c ∷ cs) = cs
+
 head_of : (n m : ℕ) (s t : List Written) (ds es : Certificates) → (n, s) ∷ ds ≡ (m, t) ∷ es → (s ≡ t) × (ds ≡ es)
-head_of n m s t ds es e = (cc, cc)
+unfolding steps_or rest_or
+head_of n m s t ds es e = (ap (steps_or s) e, ap (rest_or ds) e)
 
 never_supplied : (c : Condition) (budget : ℕ) (e : End) → IsSearched c budget e → e ≡ supplied → ⊥
 never_supplied c budget e h is = let kept : is_kept (end_of h.verdict) ≡ true = ap is_kept (sym h.is ∙ is) in apart (is_kept (end_of h.verdict)) (never_kept h.verdict) kept
@@ -47,7 +56,7 @@ never_supplied c budget e h is = let kept : is_kept (end_of h.verdict) ≡ true 
 
 module _ (es : Entries) (budget n : ℕ) (c : Condition) (k : Known) (cs : List Condition) (ks : List Known) where
   -- it is kept: its certificate comes first of those that wait, and is valid
-  record IsPopped (x : ℕ × Cert) (new : List (ℕ × Cert)) : Type 0 where
+  pub record IsPopped (x : ℕ × Cert) (new : List (ℕ × Cert)) : Type 0 where
     pub valid : IsValid c (steps_of x.1)
     pub rest : AreTaken es budget (n + 1) cs ks (waiting new)
 
