@@ -1,4 +1,4 @@
-"""Tries what `wy prove` saves on real files: `saves.py PROGRAM`.
+"""Tries what `wy prove` and `wy again` save on real files: `saves.py PROGRAM`.
 
 A save that fails, or whose process ends in the middle, leaves the old file as it was; nothing is left beside it where the program ends
 by itself. A link stays, as do the permissions of a file, and what is no regular file is written over. A case that this machine can't
@@ -74,6 +74,13 @@ def a_failed_save_leaves_the_old_file(place):
     place.write("inc.cert", OLD)
     ended = place.prove(before=lambda: short_files(False))
     return ended == (5, "", "wy: inc.cert: save failed\n") and place.read("inc.cert") == OLD and place.has_only("inc.wy", "inc.cert")
+
+
+def a_failed_save_leaves_the_old_cache(place):
+    place.write("inc.cache", OLD)
+    ended = place.run("again", "inc.wy", "inc.cache", before=lambda: short_files(False))
+    stays = place.read("inc.cache") == OLD and place.read("inc.wy") == SOURCE.encode() and place.has_only("inc.wy", "inc.cache")
+    return ended == (5, "", "wy: inc.cache: save failed\n") and stays
 
 
 def a_failed_save_makes_no_file(place):
@@ -159,6 +166,7 @@ CASES = [
     a_new_file,
     an_old_file_is_replaced,
     a_failed_save_leaves_the_old_file,
+    a_failed_save_leaves_the_old_cache,
     a_failed_save_makes_no_file,
     a_process_that_ends_leaves_the_old_file,
     a_name_beside_that_is_taken_stays,

@@ -56,7 +56,15 @@ const ROWS: &str = concat!(
     "1|4000|4000|prove inc.wy o|5||wy: o: save failed\n|%",
     "0|4000|4000|prove inc.wy o|4||wy: inc.wy: load failed\n|%",
     "9|4000|4000|prove inc.wy o --budget 0|1||inc.wy:4:14: condition 1 range: spent 0\ninc.wy:4:14: condition 2 range: spent 0\ninc.wy:4:5: condition 3 ensures: spent 0\nrefused: 3 conditions, 0 open, 3 spent\n|wycert 1\nend\n%",
-    "9|4000|4000|prove tab.wy o|1||tab.wy:3:2: BadIndent\n|",
+    "9|4000|4000|prove tab.wy o|1||tab.wy:3:2: BadIndent\n|%",
+    "9|4000|4000|again inc.wy o|0|accepted 3 conditions, 0 kept, 3 searched\n||wycache 1\nfor 4\n%",
+    "0|4000|4000|again inc.wy o|4||wy: inc.wy: load failed\n|%",
+    "1|4000|4000|again inc.wy o|4||wy: o: load failed\n|%",
+    "2|4000|4000|again inc.wy o|5||wy: o: save failed\n|%",
+    "9|9|4000|again inc.wy o|5|accepted ||wycache 1\n%",
+    "9|4000|4000|again inc.wy o --budget 0|1||inc.wy:4:14: condition 1 range: spent 0\ninc.wy:4:14: condition 2 range: spent 0\ninc.wy:4:5: condition 3 ensures: spent 0\nrefused: 3 conditions, 0 open, 3 spent\n|wycache 1\nend\n%",
+    "9|4000|4000|again inc.wy none|0|accepted 3 conditions, 0 kept, 3 searched\n||%",
+    "9|4000|4000|again no.wy o|3||wy: no.wy: absent\n|",
 );
 
 // the next field

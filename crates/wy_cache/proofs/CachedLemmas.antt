@@ -37,11 +37,11 @@ behind_first n steps text rest more place is here =
     let e = k.rest in
     cc
 
-steps_inside : (steps : List Written) → AreWritable steps → AreInside (map step_text steps)
+pub steps_inside : (steps : List Written) → AreWritable steps → AreInside (map step_text steps)
 steps_inside [] h = tt
 steps_inside (s ∷ steps) h = (step_inside s h.0, steps_inside steps h.1)
 
-steps_lines : (steps : List Written) → texts line_text steps ≡ lines_text (map step_text steps)
+pub steps_lines : (steps : List Written) → texts line_text steps ≡ lines_text (map step_text steps)
 steps_lines [] = refl
 steps_lines (s ∷ steps) = grouped (step_text s) (codes "\n") (texts line_text steps) ∙ ap (λ (i : List ℕ). step_text s ++ 10 ∷ i) (steps_lines steps)
 

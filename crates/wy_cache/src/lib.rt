@@ -3,13 +3,16 @@
 //! A cache is a list of entries, read from a file that is trusted in nothing (`wy_cache_text`). `keys` makes the key of a
 //! condition, which is its text. `keeping` takes, for each condition of a program, the first entry with its key, reads the
 //! steps there as a certificate, and keeps it where it is valid. `caching` writes a file of conditions and their
-//! certificates. `specs/Kept` says what is kept, `specs/Cached` what is written.
+//! certificates. `specs/Kept` says what is kept, `specs/Cached` what is written, and `law` that
+//! what is written is kept.
 #![tactic(auto)]
 
 mod caching;
 mod keeping;
 mod keys;
+mod law;
 
 pub use caching::cache_text;
 pub use keeping::kept;
+pub use law::written_conditions_are_kept;
 pub use wy_cache_text::{Cache, Entry, read_cache};

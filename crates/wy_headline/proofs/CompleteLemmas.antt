@@ -9,17 +9,16 @@ use Rattle.wy_top.specs.wy_top_answers.report.Lines.{words_refused}
 use Rattle.wy_top.specs.Large.{big_steps}
 use Rattle.wy_top.specs.Launching.{run_steps}
 use Rattle.wy_top.specs.Programs.{count_of}
-use Rattle.wy_top.specs.Proofs.{Proves, proves_file}
 use Rattle.wy_top.specs.Runs as code
 use Rattle.wy_top.specs.Saves.{Saves, Saving}
 use Rattle.wy_top.specs.Saves as saves
 use Rattle.wy_top.specs.Statement as statement
 use Rattle.wy_top.specs.declared.launching.Launch.{Launch}
-use Rattle.wy_top_words.specs.CommandLine.{Asked, check, run, prove, conds, fmt, dis, big, probe, command_of}
+use Rattle.wy_top_words.specs.CommandLine.{Asked, check, run, prove, conds, fmt, dis, big, probe, again, command_of}
 use Rattle.wy_value.specs.Datum.{Datum}
 use Rattle.wy_headline.specs.Accepted.{AreTold, IsCutShort}
 use Rattle.wy_headline.specs.Accepted as accepted
-use Rattle.wy_headline.specs.Complete.{AnswersWhole, CallsAreComplete, DoesWhole, DoesWholeIf, IsDefined, LargeWhole, NoneRose, ProvesWhole, RunsWhole, ShowsProofWhole, ShowsRunWhole}
+use Rattle.wy_headline.specs.Complete.{AnswersWhole, CallsAreComplete, DoesWhole, DoesWholeIf, IsDefined, LargeWhole, NoneRose, RunsWhole, SavesWhole, ShowsRunWhole, ShowsSavedWhole}
 use Rattle.wy_headline.specs.Headline.{Headline}
 use Rattle.wy_headline.specs.Large.{AnswersLarge, IsLargeRun, RanLarge, ShowsLarge, line_of, line_written, steps_spend}
 use Rattle.wy_headline.specs.Runs.{EndsDone, Entry, IsDoneWithin, ShowsFailed}
@@ -154,47 +153,48 @@ module _ (s : Setting) (v : Saving) (status : ℕ) (k : Sinks) (none : NoneRose 
         by (inl w) = inl (record { answers = w; surely = large_surely (large_right s functions seed budget steps status k h) })
         by (inr nine) = inr nine
 
-  -- ---- the command `prove`
+  -- ---- commands that save a file
 
-  module _ (source output : List ℕ) (budget : ℕ) where
-    saved_whole : (saved : List ℕ) (a : Answer) → Proves s source budget saved → Saves output saved a v status k → ShowsProofWhole s source budget v status k (Ok a) ⊎ (status ≡ 9)
-    saved_whole saved a proves (saves.whole is shown) = inl (saved, proves, is, whole a shown)
-    saved_whole saved a proves (saves.failed rose lost shown) = absurd (none.saves rose)
-    saved_whole saved a proves (saves.no_memory same shown) = let w = whole no_memory shown in inr w.answer
+  module _ (step : Sense → Came Answer → Type 0) (made : List ℕ → Type 0) (name : List ℕ) where
+    saved_whole : (saved : List ℕ) (a : Answer) → made saved → Saves name saved a v status k → ShowsSavedWhole made v status k (Ok a) ⊎ (status ≡ 9)
+    saved_whole saved a so (saves.whole is shown) = inl (saved, so, is, whole a shown)
+    saved_whole saved a so (saves.failed rose lost shown) = absurd (none.saves rose)
+    saved_whole saved a so (saves.no_memory same shown) = let w = whole no_memory shown in inr w.answer
 
-    proof_answer : (r : Came Answer) → ShowsProofWhole s source budget v status k r → ShowsWhole (answer_in r) status k
-    proof_answer (Ok a) w = w.3
-    proof_answer (Err a) w = w.0
+    saved_answer : (r : Came Answer) → ShowsSavedWhole made v status k r → ShowsWhole (answer_in r) status k
+    saved_answer (Ok a) w = w.3
+    saved_answer (Err a) w = w.0
 
-    proves_whole : (r : Came Answer) → proves_file s source budget stated r → ShowsProofWhole s source budget v status k r
-        → ((other : Came Answer) → proves_file s source budget due other → (other ≡ r) ⊎ EndsFree s r) → ProvesWhole s source budget v status k
-    proves_whole r came w only = record { proof = r; defined = defined_so (proves_file s source budget) r came (proof_answer r w) only; shown = w }
+    saves_whole : (r : Came Answer) → step stated r → ShowsSavedWhole made v status k r
+        → ((other : Came Answer) → step due other → (other ≡ r) ⊎ EndsFree s r) → SavesWhole s step made v status k
+    saves_whole r came w only = record { last = r; defined = defined_so step r came (saved_answer r w) only; shown = w }
 
-    by_proof : (r : Came Answer) → proves_file s source budget stated r ⊎ EndsOutside s r → statement.ShowsProof s source output budget v status k r
-        → ((other : Came Answer) → proves_file s source budget due other → (other ≡ r) ⊎ EndsFree s r) → ProvesWhole s source budget v status k ⊎ (status ≡ 9)
-    by_proof (Ok a) (inl came) shown only = by (saved_whole shown.0 a shown.1 shown.2)
+    by_saved : (r : Came Answer) → step stated r ⊎ EndsOutside s r → statement.ShowsSaved made name v status k r
+        → ((other : Came Answer) → step due other → (other ≡ r) ⊎ EndsFree s r) → SavesWhole s step made v status k ⊎ (status ≡ 9)
+    by_saved (Ok a) (inl came) shown only = by (saved_whole shown.0 a shown.1 shown.2)
       where
-        by : ShowsProofWhole s source budget v status k (Ok a) ⊎ (status ≡ 9) → ProvesWhole s source budget v status k ⊎ (status ≡ 9)
-        by (inl w) = inl (proves_whole (Ok a) came w only)
+        by : ShowsSavedWhole made v status k (Ok a) ⊎ (status ≡ 9) → SavesWhole s step made v status k ⊎ (status ≡ 9)
+        by (inl w) = inl (saves_whole (Ok a) came w only)
         by (inr nine) = inr nine
-    by_proof (Ok a) (inr outside) shown only = absurd outside
-    by_proof (Err a) (inl came) shown only = inl (proves_whole (Err a) came (whole a shown.0, shown.1) only)
-    by_proof (Err a) (inr outside) shown only = inr (outside_9 a outside (whole a shown.0))
+    by_saved (Ok a) (inr outside) shown only = absurd outside
+    by_saved (Err a) (inl came) shown only = inl (saves_whole (Err a) came (whole a shown.0, shown.1) only)
+    by_saved (Err a) (inr outside) shown only = inr (outside_9 a outside (whole a shown.0))
 
-    proved : statement.IsProved s source output budget v status k → ProvesWhole s source budget v status k ⊎ (status ≡ 9)
-    proved h = by_proof h.proof h.gives.comes h.shown h.gives.only
+    saved : statement.SavesBy s step made name v status k → SavesWhole s step made v status k ⊎ (status ≡ 9)
+    saved h = by_saved h.last h.gives.comes h.shown h.gives.only
 
   -- ---- all commands
 
   done : (asked : Asked) → statement.Does asked s v status k → DoesWhole asked s v status k ⊎ (status ≡ 9)
   done (check source cert budget) h = answered _ h
   done (run source cert name arguments budget steps stats) h = ran source cert name arguments budget steps stats h
-  done (prove source output budget) h = proved source output budget h
+  done (prove source output budget) h = saved _ _ output h
   done (conds source) h = answered _ h
   done (fmt source) h = answered _ h
   done (dis source) h = answered _ h
   done (big functions seed budget steps) h = large functions seed budget steps h
   done (probe source name tuples ticks) h = answered _ h
+  done (again source cache budget) h = saved _ _ cache h
 
   done_if : (asked : Option Asked) → statement.DoesIf asked s v status k → DoesWholeIf asked s v status k ⊎ (status ≡ 9)
   done_if (Some asked) h = done asked h

@@ -13,6 +13,7 @@ pub mod LargeLemmas
 pub mod SeenLemmas
 pub mod CandidateLemmas
 pub mod ProbeLemmas
+pub mod AgainLemmas
 pub mod MeansLemmas
 pub mod CompleteLemmas
 pub mod due_lemmas

@@ -5,8 +5,9 @@ use Rattle.wy_top.specs.wy_top_answers.Showing.{Shown, Sinks}
 use Rattle.wy_top.specs.wy_top_answers.Steps.{Setting}
 use Rattle.wy_top.specs.Saves.{Saving}
 use Rattle.wy_top.specs.Statement.{Comes, Does, DoesIf}
-use Rattle.wy_top_words.specs.CommandLine.{Asked, check, run, prove, conds, fmt, dis, big, probe, command_of}
+use Rattle.wy_top_words.specs.CommandLine.{Asked, check, run, prove, conds, fmt, dis, big, probe, again, command_of}
 use Rattle.wy_headline.specs.Means.{CallsMean, MeansAsked, MeansIf}
+use Rattle.wy_headline.proofs.AgainLemmas.{renewals_right}
 use Rattle.wy_headline.proofs.CheckLemmas.{checks_right}
 use Rattle.wy_headline.proofs.HeadlineLemmas.{runs_right}
 use Rattle.wy_headline.proofs.LargeLemmas.{large_right}
@@ -22,6 +23,7 @@ asked_means (fmt source) s v status k h = tt
 asked_means (dis source) s v status k h = tt
 asked_means (big functions seed budget steps) s v status k h = large_right s functions seed budget steps status k h
 asked_means (probe source name tuples ticks) s v status k h = probes_right s source name tuples ticks status k h
+asked_means (again source cache budget) s v status k h = renewals_right s source cache budget v status k h
 
 if_means : (asked : Option Asked) (s : Setting) (v : Saving) (status : ℕ) (k : Sinks) → DoesIf asked s v status k → MeansIf asked s status k
 if_means (Some asked) s v status k h = asked_means asked s v status k h

@@ -13,17 +13,19 @@ use Rattle.wy_top.specs.Acceptance.{are_closed, check_steps}
 use Rattle.wy_top.specs.wy_batch.Known.{Known}
 use Rattle.wy_top.specs.wy_top_probe.Probing.{IsProbed, enters, found_answer, probe_steps, reads}
 use Rattle.wy_top.specs.Programs.{Program}
-use Rattle.wy_top.specs.Proofs.{IsJudged, proof_answer, proves_file}
+use Rattle.wy_top.specs.Again.{Renews, renews_file}
+use Rattle.wy_top.specs.Proofs.{IsJudged, Proves, proof_answer, proves_file}
 use Rattle.wy_top.specs.Saves.{Saves, Saving}
 use Rattle.wy_top.specs.Saves as saves
-use Rattle.wy_top.specs.Statement.{Does, DoesIf, ShowsProof}
+use Rattle.wy_top.specs.Statement.{Does, DoesIf, ShowsSaved}
 use Rattle.wy_top.specs.Texts.{source_for, text, text_steps}
 use Rattle.wy_top.specs.declared.texts.Text.{Text}
 use Rattle.wy_top.specs.declared.texts.Text.TheVariants as kind_of
-use Rattle.wy_top_words.specs.CommandLine.{Asked, check, run, prove, conds, fmt, dis, big, probe, command_of}
+use Rattle.wy_top_words.specs.CommandLine.{Asked, check, run, prove, conds, fmt, dis, big, probe, again, command_of}
 use Rattle.wy_headline.specs.Headline.{HasNoRun, Headline, IsOfRun}
 use Rattle.wy_headline.specs.Runs.{Entry}
 use Rattle.wy_headline.specs.Seen.{IsNeverStuck, IsNotCertified, NeverSticks}
+use Rattle.wy_headline.proofs.AgainLemmas.{renewal_bad, renewal_good}
 use Rattle.wy_headline.proofs.HeadlineLemmas.{none_apart, runs_right}
 use Rattle.wy_headline.proofs.LargeLemmas.{large_comes, large_right}
 use Rattle.wy_headline.proofs.ApartLemmas.{Apart, answered_apart, check_bad, check_good, faulted_apart, no_0, no_1, no_12, no_2, no_5, no_7, no_8, no_9, none_is, other, others, outside_apart, shown_apart, value_apart}
@@ -131,18 +133,26 @@ saved_apart name saved a v status k apart (saves.no_memory same shown) = shown_a
 weak : (status : ℕ) (k : Sinks) → status ≢ 13 → IsNotCertified status k
 weak status k apart e = absurd (apart e)
 
-proved_fine : (s : Setting) (source output : List ℕ) (budget : ℕ) (v : Saving) (status : ℕ) (k : Sinks) (r : Came Answer) → proves_file s source budget stated r ⊎ EndsOutside s r → ShowsProof s source output budget v status k r → IsNotCertified status k
+proved_fine : (s : Setting) (source output : List ℕ) (budget : ℕ) (v : Saving) (status : ℕ) (k : Sinks) (r : Came Answer) → proves_file s source budget stated r ⊎ EndsOutside s r → ShowsSaved (Proves s source budget) output v status k r → IsNotCertified status k
 proved_fine s source output budget v status k (Ok a) (inl h) shown = weak status k (saved_apart output shown.0 a v status k (proof_good s source budget a h) shown.2)
 proved_fine s source output budget v status k (Ok a) (inr h) shown = absurd h
 proved_fine s source output budget v status k (Err a) (inl h) shown = shown_fine a status k (proof_bad s source budget a h) shown.0
 proved_fine s source output budget v status k (Err a) (inr h) shown = weak status k (shown_apart a status k (outside_apart s a h) shown.0)
+
+-- ---- the command `again`
+
+renewed_apart : (s : Setting) (source cache : List ℕ) (budget : ℕ) (v : Saving) (status : ℕ) (k : Sinks) (r : Came Answer) → renews_file s source cache budget stated r ⊎ EndsOutside s r → ShowsSaved (Renews s source cache budget) cache v status k r → status ≢ 13
+renewed_apart s source cache budget v status k (Ok a) (inl h) shown = saved_apart cache shown.0 a v status k (renewal_good s source cache budget a h) shown.2
+renewed_apart s source cache budget v status k (Ok a) (inr h) shown = absurd h
+renewed_apart s source cache budget v status k (Err a) (inl h) shown = shown_apart a status k (renewal_bad s source cache budget a h) shown.0
+renewed_apart s source cache budget v status k (Err a) (inr h) shown = shown_apart a status k (outside_apart s a h) shown.0
 
 -- ---- all commands
 
 done_fine : (asked : Asked) (s : Setting) (v : Saving) (status : ℕ) (k : Sinks) → Does asked s v status k → IsNeverStuck (Some asked) status k
 done_fine (check source cert budget) s v status k h = answered_apart s (check_steps s source cert budget) (check_good s source cert budget) (check_bad s source cert budget) status k h
 done_fine (run source cert name arguments budget steps stats) s v status k h = run_comes s source cert name arguments budget steps stats status k (runs_right s source cert name arguments budget steps stats status k h)
-done_fine (prove source output budget) s v status k h = proved_fine s source output budget v status k h.proof h.gives.comes h.shown
+done_fine (prove source output budget) s v status k h = proved_fine s source output budget v status k h.last h.gives.comes h.shown
 done_fine (conds source) s v status k h = answered_apart s (text_steps s kind_of.Conditions source) (text_good s kind_of.Conditions source) (text_bad s kind_of.Conditions source) status k h
 done_fine (fmt source) s v status k h = answered_apart s (text_steps s kind_of.Layout source) (text_good s kind_of.Layout source) (text_bad s kind_of.Layout source) status k h
 done_fine (dis source) s v status k h = answered_apart s (text_steps s kind_of.Listing source) (text_good s kind_of.Listing source) (text_bad s kind_of.Listing source) status k h
@@ -150,6 +160,7 @@ done_fine (big functions seed budget steps) s v status k h =
     let g = large_right s functions seed budget steps status k h in
     shown_apart g.answer status k (large_comes s functions seed budget steps g.answer g.comes) g.shown
 done_fine (probe source name tuples ticks) s v status k h = answered_apart s (probe_steps s source name tuples ticks) (probe_good s source name tuples ticks) (probe_bad s source name tuples ticks) status k h
+done_fine (again source cache budget) s v status k h = renewed_apart s source cache budget v status k h.last h.gives.comes h.shown
 
 asked_fine : (asked : Option Asked) (s : Setting) (v : Saving) (status : ℕ) (k : Sinks) → DoesIf asked s v status k → IsNeverStuck asked status k
 asked_fine (Some asked) s v status k h = done_fine asked s v status k h
@@ -166,6 +177,7 @@ all_weak (Some (fmt source)) status k apart = apart
 all_weak (Some (dis source)) status k apart = apart
 all_weak (Some (big functions seed budget steps)) status k apart = apart
 all_weak (Some (probe source name tuples ticks)) status k apart = apart
+all_weak (Some (again source cache budget)) status k apart = apart
 
 pub never_sticks : NeverSticks
 never_sticks words s v status k (inl h) = asked_fine (command_of words) s v status k h

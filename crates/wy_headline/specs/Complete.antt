@@ -8,6 +8,7 @@ use Rattle.wy_top.specs.wy_top_answers.Steps.{Came, Sense, Setting, answer_in, d
 use Rattle.wy_top.specs.wy_top_answers.declared.answer.Answer.{Answer}
 use Rattle.wy_top.specs.wy_top_answers.report.Lines.{words_refused}
 use Rattle.wy_top.specs.Acceptance.{check_steps}
+use Rattle.wy_top.specs.Again.{Renews, renews_file}
 use Rattle.wy_top.specs.Large.{big_steps}
 use Rattle.wy_top.specs.Launching.{run_steps}
 use Rattle.wy_top.specs.wy_top_probe.Probing.{probe_steps}
@@ -19,7 +20,7 @@ use Rattle.wy_top.specs.Statement.{Comes}
 use Rattle.wy_top.specs.Texts.{text_steps}
 use Rattle.wy_top.specs.declared.launching.Launch.{Launch}
 use Rattle.wy_top.specs.declared.texts.Text.TheVariants as text
-use Rattle.wy_top_words.specs.CommandLine.{Asked, check, run, prove, conds, fmt, dis, big, probe, command_of}
+use Rattle.wy_top_words.specs.CommandLine.{Asked, check, run, prove, conds, fmt, dis, big, probe, again, command_of}
 use Rattle.wy_value.specs.Datum.{Datum}
 use Rattle.wy_headline.specs.Accepted.{AreTold}
 use Rattle.wy_headline.specs.Large.{IsLargeRun, line_of}
@@ -66,29 +67,30 @@ pub record LargeWhole (s : Setting) (functions seed budget steps : ℕ) (status 
   pub surely : (e : Entry) (of : IsLargeRun s functions seed budget e) (v : Datum) (output : List ℕ) → IsDoneWithin e steps v output
       → ShowsWhole (line_of functions (count_of of.acceptance.program) e v output) status k ⊎ (status ≡ 9)
 
--- ---- the command `prove`
+-- ---- commands that save a file
 
--- a file of the certificates that were found is saved, and the answer is shown whole; or nothing is saved, and the answer of why is
-abbrev pub ShowsProofWhole : Setting → List ℕ → ℕ → Saving → ℕ → Sinks → Came Answer → Type 0
-ShowsProofWhole s source budget v status k (Ok a) = (saved : List ℕ) × Proves s source budget saved × IsSaved v.told_before v.told_after saved × ShowsWhole a status k
-ShowsProofWhole s source budget v status k (Err a) = ShowsWhole a status k × (v.told_after ≡ v.told_before)
+-- a text that is made so is saved, and the answer is shown whole; or nothing is saved, and the answer of why is
+abbrev pub ShowsSavedWhole : (List ℕ → Type 0) → Saving → ℕ → Sinks → Came Answer → Type 0
+ShowsSavedWhole made v status k (Ok a) = (saved : List ℕ) × made saved × IsSaved v.told_before v.told_after saved × ShowsWhole a status k
+ShowsSavedWhole made v status k (Err a) = ShowsWhole a status k × (v.told_after ≡ v.told_before)
 
-pub record ProvesWhole (s : Setting) (source : List ℕ) (budget : ℕ) (v : Saving) (status : ℕ) (k : Sinks) : Type 0 where
-  pub proof : Came Answer
-  pub defined : IsDefined s (proves_file s source budget) status proof
-  pub shown : ShowsProofWhole s source budget v status k proof
+pub record SavesWhole (s : Setting) (step : Sense → Came Answer → Type 0) (made : List ℕ → Type 0) (v : Saving) (status : ℕ) (k : Sinks) : Type 0 where
+  pub last : Came Answer
+  pub defined : IsDefined s step status last
+  pub shown : ShowsSavedWhole made v status k last
 
 -- ---- all commands
 
 abbrev pub DoesWhole : Asked → Setting → Saving → ℕ → Sinks → Type 0
 DoesWhole (check source cert budget) s v status k = AnswersWhole s (check_steps s source cert budget) status k
 DoesWhole (run source cert name arguments budget steps stats) s v status k = RunsWhole s source cert name arguments budget steps stats status k
-DoesWhole (prove source output budget) s v status k = ProvesWhole s source budget v status k
+DoesWhole (prove source output budget) s v status k = SavesWhole s (proves_file s source budget) (Proves s source budget) v status k
 DoesWhole (conds source) s v status k = AnswersWhole s (text_steps s text.Conditions source) status k
 DoesWhole (fmt source) s v status k = AnswersWhole s (text_steps s text.Layout source) status k
 DoesWhole (dis source) s v status k = AnswersWhole s (text_steps s text.Listing source) status k
 DoesWhole (big functions seed budget steps) s v status k = LargeWhole s functions seed budget steps status k
 DoesWhole (probe source name tuples ticks) s v status k = AnswersWhole s (probe_steps s source name tuples ticks) status k
+DoesWhole (again source cache budget) s v status k = SavesWhole s (renews_file s source cache budget) (Renews s source cache budget) v status k
 
 abbrev pub DoesWholeIf : Option Asked → Setting → Saving → ℕ → Sinks → Type 0
 DoesWholeIf (Some asked) s v status k = DoesWhole asked s v status k

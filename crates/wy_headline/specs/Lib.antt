@@ -5,6 +5,7 @@ pub mod Started
 pub mod Runs
 pub mod Large
 pub mod Probes
+pub mod Again
 pub mod Seen
 pub mod Means
 pub mod Complete

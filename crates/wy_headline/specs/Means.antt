@@ -5,8 +5,9 @@ use Rattle.wy_top.specs.wy_top_answers.Showing.{Shown, Sinks}
 use Rattle.wy_top.specs.wy_top_answers.Steps.{Setting}
 use Rattle.wy_top.specs.Saves.{Saving}
 use Rattle.wy_top.specs.Statement.{Comes}
-use Rattle.wy_top_words.specs.CommandLine.{Asked, check, run, prove, conds, fmt, dis, big, probe, command_of}
+use Rattle.wy_top_words.specs.CommandLine.{Asked, check, run, prove, conds, fmt, dis, big, probe, again, command_of}
 use Rattle.wy_headline.specs.Accepted.{MeansCheck}
+use Rattle.wy_headline.specs.Again.{MeansAgain}
 use Rattle.wy_headline.specs.Headline.{Headline}
 use Rattle.wy_headline.specs.Large.{ShowsLarge}
 use Rattle.wy_headline.specs.Probes.{MeansProbe}
@@ -22,6 +23,7 @@ MeansAsked (fmt source) s status k = ⊤
 MeansAsked (dis source) s status k = ⊤
 MeansAsked (big functions seed budget steps) s status k = ShowsLarge s functions seed budget steps status k
 MeansAsked (probe source name tuples ticks) s status k = MeansProbe s source name tuples ticks status k
+MeansAsked (again source cache budget) s status k = MeansAgain s source cache budget status k
 
 abbrev pub MeansIf : Option Asked → Setting → ℕ → Sinks → Type 0
 MeansIf (Some asked) s status k = MeansAsked asked s status k

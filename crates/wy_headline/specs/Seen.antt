@@ -6,7 +6,7 @@ use Rattle.wy_top.specs.wy_top_answers.Texts.{not_certified}
 use Rattle.wy_port.specs.Taken.{with_taken}
 use Rattle.wy_top.specs.Saves.{Saving}
 use Rattle.wy_top.specs.Statement.{Comes}
-use Rattle.wy_top_words.specs.CommandLine.{Asked, check, run, prove, conds, fmt, dis, big, probe, command_of}
+use Rattle.wy_top_words.specs.CommandLine.{Asked, check, run, prove, conds, fmt, dis, big, probe, again, command_of}
 
 -- where the status is 13, a condition was found and not certified: err took that line, and out nothing
 abbrev pub IsNotCertified : ℕ → Sinks → Type 0
@@ -22,6 +22,7 @@ IsNeverStuck (Some (fmt source)) status k = status ≢ 13
 IsNeverStuck (Some (dis source)) status k = status ≢ 13
 IsNeverStuck (Some (big functions seed budget steps)) status k = status ≢ 13
 IsNeverStuck (Some (probe source name tuples ticks)) status k = status ≢ 13
+IsNeverStuck (Some (again source cache budget)) status k = status ≢ 13
 IsNeverStuck None status k = status ≢ 13
 
 abbrev pub NeverSticks : Type 0

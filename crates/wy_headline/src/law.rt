@@ -1,5 +1,6 @@
 //! What is known of the commands that run programs, and of the one that looks for faults.
 ghost use Rattle.wy_headline.specs.Accepted.{AcceptedIsTrue, ChecksAreRight};
+ghost use Rattle.wy_headline.specs.Again.{RenewalsAreRight};
 ghost use Rattle.wy_headline.specs.Complete.{CallsAreComplete};
 ghost use Rattle.wy_headline.specs.Headline.{RunsAreRight};
 ghost use Rattle.wy_headline.specs.Large.{LargeRunsAreRight};
@@ -42,6 +43,14 @@ pub fn big_runs_are_right()
 /// faults so, but for a failed load (4), a failed sink (5) and want of memory (9).
 pub fn probes_are_right()
     ensures right { ProbesAreRight }
+{}
+
+/// The command `again`, whatever the bytes of the cache. Status 0 comes only where the source is a typed and assigned program within
+/// the limits and each of its conditions is kept or found within the budget, with the line that tells how many are kept and how many
+/// are not. Where files are told and it is so, that is what comes, but for a failed load (4), a failed save or sink (5) and want of
+/// memory (9).
+pub fn renewals_are_right()
+    ensures right { RenewalsAreRight }
 {}
 
 /// Whatever the words, a run never lacks a step: status 13 comes of the command `prove` alone, for a condition

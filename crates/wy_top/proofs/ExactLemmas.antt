@@ -3,10 +3,10 @@ use Rattle.std.proofs.Common.{◌≡◌, ◌⊎◌, ℕ, List, Bool, Ok, Err, in
 use Rattle.wy_top_probe.specs.wy_top_answers.Showing.{ShowsWhole, Shown, Sinks}
 use Rattle.wy_top_probe.specs.wy_top_answers.Steps.{Came, EndsFree, IsFree, IsOutside, Sense, Setting, answer_in, failed, from_outside, memory, uncertified}
 use Rattle.wy_top_probe.specs.wy_top_answers.declared.answer.Answer.{Answer}
-use Rattle.wy_top_words.specs.CommandLine.{check, run, prove, conds, fmt, dis, big, probe}
+use Rattle.wy_top_words.specs.CommandLine.{check, run, prove, conds, fmt, dis, big, probe, again}
 use Rattle.wy_top.specs.Exact.{AnswersExactly, DoesExactly, IsElse, ShowsDue}
 use Rattle.wy_top.specs.Saves.{Saves, Saving, whole, failed as save_failed, no_memory as save_lacks_memory}
-use Rattle.wy_top.specs.Statement.{IsAnswered, ShowsProof, ShowsRun}
+use Rattle.wy_top.specs.Statement.{IsAnswered, SavesBy, ShowsRun, ShowsSaved}
 use Rattle.wy_top.specs.declared.launching.Launch.{Launch}
 
 status_of : Answer → ℕ
@@ -42,7 +42,7 @@ by_last s (Ok a) other status k shown (inr free) = absurd free
 by_last s (Err a) other status k shown (inr free) = inr (free_shown s a status k free shown)
 
 pub answered : (s : Setting) (step : Sense → Came Answer → Type 0) (status : ℕ) (k : Sinks) → IsAnswered s step status k → AnswersExactly s step status k
-answered s step status k h told other is_due =
+answered s step status k h other is_due =
     by_last s h.answers.last other status k (subst (λ (a : Answer). Shown a status k) h.answers.is h.shown) (h.answers.gives.only other is_due)
 
 -- ---- the command `run`
@@ -56,7 +56,7 @@ by_launch s steps stats status k launch other shown (inl e) = run_or steps stats
 by_launch s steps stats status k (Ok l) other shown (inr free) = absurd free
 by_launch s steps stats status k (Err a) other shown (inr free) = inr (free_shown s a status k free shown)
 
--- ---- the command `prove`
+-- ---- commands that save a file
 
 save_or : (name saved : List ℕ) (a : Answer) (v : Saving) (status : ℕ) (k : Sinks) → Saves name saved a v status k → ShowsWhole a status k ⊎ IsElse status
 save_or name saved a v status k (whole is shown) = whole_or a status k shown
@@ -67,24 +67,28 @@ save_or name saved a v status k (save_failed rose lost (inr (inr f))) = inr (inr
 save_or name saved a v status k (save_lacks_memory same (inl w)) = inr (inr (inr (inl w.answer)))
 save_or name saved a v status k (save_lacks_memory same (inr f)) = inr (inr (inl f.answer))
 
-proof_or : (s : Setting) (source output : List ℕ) (budget : ℕ) (v : Saving) (status : ℕ) (k : Sinks) (r : Came Answer) → ShowsProof s source output budget v status k r → ShowsWhole (answer_in r) status k ⊎ IsElse status
-proof_or s source output budget v status k (Ok a) h = save_or output h.0 a v status k h.2
-proof_or s source output budget v status k (Err a) h = whole_or a status k h.0
+module _ (s : Setting) (made : List ℕ → Type 0) (name : List ℕ) (v : Saving) (status : ℕ) (k : Sinks) where
+  saved_or : (r : Came Answer) → ShowsSaved made name v status k r → ShowsWhole (answer_in r) status k ⊎ IsElse status
+  saved_or (Ok a) h = save_or name h.0 a v status k h.2
+  saved_or (Err a) h = whole_or a status k h.0
 
-by_proof : (s : Setting) (source output : List ℕ) (budget : ℕ) (v : Saving) (status : ℕ) (k : Sinks) (proof other : Came Answer) → ShowsProof s source output budget v status k proof → (other ≡ proof) ⊎ EndsFree s proof
-    → ShowsWhole (answer_in other) status k ⊎ IsElse status
-by_proof s source output budget v status k proof other shown (inl e) = proof_or s source output budget v status k other (subst (ShowsProof s source output budget v status k) (sym e) shown)
-by_proof s source output budget v status k (Ok a) other shown (inr free) = absurd free
-by_proof s source output budget v status k (Err a) other shown (inr free) = inr (free_shown s a status k free shown.0)
+  by_saved : (last other : Came Answer) → ShowsSaved made name v status k last → (other ≡ last) ⊎ EndsFree s last → ShowsWhole (answer_in other) status k ⊎ IsElse status
+  by_saved last other shown (inl e) = saved_or other (subst (ShowsSaved made name v status k) (sym e) shown)
+  by_saved (Ok a) other shown (inr free) = absurd free
+  by_saved (Err a) other shown (inr free) = inr (free_shown s a status k free shown.0)
+
+  pub saves_exactly : (step : Sense → Came Answer → Type 0) → SavesBy s step made name v status k → AnswersExactly s step status k
+  saves_exactly step h other is_due = by_saved h.last other h.shown (h.gives.only other is_due)
 
 -- ---- all commands
 
 pub does_exactly : DoesExactly
 does_exactly (check source cert budget) s v status k h = answered s _ status k h
 does_exactly (run source cert name arguments budget steps stats) s v status k h = λ other is_due. by_launch s steps stats status k h.launch other h.shown (h.gives.only other is_due)
-does_exactly (prove source output budget) s v status k h = λ other is_due. by_proof s source output budget v status k h.proof other h.shown (h.gives.only other is_due)
+does_exactly (prove source output budget) s v status k h = saves_exactly s _ output v status k _ h
 does_exactly (conds source) s v status k h = answered s _ status k h
 does_exactly (fmt source) s v status k h = answered s _ status k h
 does_exactly (dis source) s v status k h = answered s _ status k h
 does_exactly (big functions seed budget steps) s v status k h = answered s _ status k h
 does_exactly (probe source name tuples ticks) s v status k h = answered s _ status k h
+does_exactly (again source cache budget) s v status k h = saves_exactly s _ cache v status k _ h

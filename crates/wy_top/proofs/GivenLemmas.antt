@@ -11,7 +11,7 @@ use Rattle.wy_batch.specs.Known.{End, Known, found, spent, stays_open, supplied}
 
 -- ---- rising numbers
 
-rising_sooner : (m n : ℕ) (certs : Certificates) → m ≤ n → AreRising n certs → AreRising m certs
+pub rising_sooner : (m n : ℕ) (certs : Certificates) → m ≤ n → AreRising n certs → AreRising m certs
 rising_sooner m n [] le rising = tt
 rising_sooner m n (c ∷ cs) le rising = (omega (arith, le, rising.0), rising.1)
 
@@ -33,17 +33,17 @@ for_rising n (c ∷ cs) (k ∷ ks) certs h = begin_rising n c k.end (λ ds. AreF
 abbrev some_steps : List Written → Option (List Written)
 some_steps s = Some s
 
-same_number : (n m : ℕ) → n ≡ m → (m == n) ≡ true
+pub same_number : (n m : ℕ) → n ≡ m → (m == n) ≡ true
 same_number n m e = grind (arith, nat_tests, e)
 
-other_number : (n m : ℕ) → n < m → (n == m) ≡ false
+pub other_number : (n m : ℕ) → n < m → (n == m) ≡ false
 other_number n m lt = grind (arith, nat_tests)
 
 later_number : (n m : ℕ) → m < n → (n == m) ≡ false
 later_number n m lt = grind (arith, nat_tests)
 
 -- rising certificates have none for a lesser number
-none_sooner : (n m : ℕ) (certs : Certificates) → AreRising n certs → m < n → certificate_for certs m ≡ None
+pub none_sooner : (n m : ℕ) (certs : Certificates) → AreRising n certs → m < n → certificate_for certs m ≡ None
 none_sooner n m [] rising lt = refl
 none_sooner n m (c ∷ cs) rising lt =
     ap (λ (b : Bool). cond b (some_steps c.1) (certificate_for cs m)) (later_number c.0 m (omega (arith, lt, rising.0)))

@@ -18,6 +18,12 @@ pub mod LiteralLemmas
 pub mod FoundLemmas
 -- what they are
 pub mod GivenLemmas
+-- what is kept of a cache, and what is saved of it
+pub mod TakenLemmas
+pub mod CachingLemmas
+pub mod RenewLemmas
+pub mod RepeatLemmas
+pub mod KeepLemmas
 -- they are read again
 pub mod WritableLemmas
 -- they are accepted

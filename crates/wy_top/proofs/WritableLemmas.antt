@@ -9,6 +9,7 @@ use Rattle.wy_prove.specs.wy_prove_writable.Writable.{AreWritableBehind}
 use Rattle.wy_prove.proofs.wy_prove_writable_proofs.RereadLemmas.{written_is_read}
 use Rattle.wy_term.specs.Condition.{Condition}
 use Rattle.wy_prove.proofs.wy_prove_writable_proofs.TreeLemmas.{valid_is_one_tree}
+use Rattle.wy_top.specs.Caches.{AreSaved, IsSavedRow, entry, no_entry}
 use Rattle.wy_top.specs.Found.{AreFor, Begin, Shows}
 use Rattle.wy_batch.specs.Known.{End, Known, found, spent, stays_open, supplied}
 
@@ -59,6 +60,24 @@ for_writable conds n (c ∷ cs) [] done certs first last few sooner h = absurd h
 for_writable conds n (c ∷ cs) (k ∷ ks) done certs first last few sooner h =
     begin_writable conds n c k.end (λ ds. AreFor (suc n) cs ks ds) done certs first (omega (arith, last)) few sooner
     (λ more ds lt g. for_writable conds (suc n) cs ks more ds (omega arith) (omega (arith, last)) few lt g) h
+
+-- those that are saved
+row_writable : (conds n : ℕ) (c : Condition) (e : End) (done others certs : Certificates) → 0 < n → n ≤ conds → conds < 2 ^ 32 → AreSooner n done
+    → ((more : Certificates) → AreSooner (n + 1) more → AreWritableBehind conds more others) → IsSavedRow n c e others certs → AreWritableBehind conds done certs
+row_writable conds n c e done others certs first last few sooner later (entry steps h is) =
+    subst (AreWritableBehind conds done) (sym is)
+    ((first, omega (arith, last, few)), last, not_listed n done sooner, valid_is_one_tree c steps h.valid, h.writable, later (done ++ (n, steps) ∷ []) (sooner_more (n + 1) done (n, steps) (sooner_later n (n + 1) done (omega arith) sooner) (omega arith)))
+row_writable conds n c e done others certs first last few sooner later (no_entry un is) = subst (AreWritableBehind conds done) (sym is) (later done (sooner_later n (n + 1) done (omega arith) sooner))
+
+saved_from : (conds n : ℕ) (cs : List Condition) (ks : List Known) (done certs : Certificates) → 0 < n → n + length cs ≤ conds + 1 → conds < 2 ^ 32 → AreSooner n done → AreSaved n cs ks certs → AreWritableBehind conds done certs
+saved_from conds n [] [] done certs first last few sooner h = subst (AreWritableBehind conds done) (sym h) tt
+saved_from conds n [] (k ∷ ks) done certs first last few sooner h = absurd h
+saved_from conds n (c ∷ cs) [] done certs first last few sooner h = absurd h
+saved_from conds n (c ∷ cs) (k ∷ ks) done certs first last few sooner h =
+    row_writable conds n c k.end done h.0 certs first (omega (arith, last)) few sooner (λ more lt. saved_from conds (n + 1) cs ks more h.0 (omega arith) (omega (arith, last)) few lt h.2) h.1
+
+pub saved_writable : (cs : List Condition) (ks : List Known) (certs : Certificates) → length cs < 2 ^ 32 → AreSaved 1 cs ks certs → AreWritableBehind (length cs) [] certs
+saved_writable cs ks certs few h = saved_from (length cs) 1 cs ks [] certs (omega arith) (omega arith) few tt h
 
 -- they are read for as many conditions as there are
 pub found_is_read : (cs : List Condition) (ks : List Known) (certs : Certificates) → length cs < 2 ^ 32 → AreFor 1 cs ks certs → ReadsFile (length cs) (file_text certs) (Ok certs)

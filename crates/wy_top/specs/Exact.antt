@@ -1,11 +1,12 @@
 -- What follows from words and told files comes, and nothing else.
 use Rattle.std.specs.Prelude.{◌≡◌, ◌⊎◌, ℕ, List, Bool, Ok, Err}
 use Rattle.wy_top.specs.Acceptance.{check_steps}
+use Rattle.wy_top.specs.Again.{renews_file}
 use Rattle.wy_top.specs.Proofs.{proves_file}
 use Rattle.wy_top_probe.specs.wy_top_answers.Showing.{ShowsWhole, Sinks}
 use Rattle.wy_top_probe.specs.wy_top_answers.Steps.{Came, Sense, Setting, answer_in, due}
 use Rattle.wy_top_probe.specs.wy_top_answers.declared.answer.Answer.{Answer}
-use Rattle.wy_top_words.specs.CommandLine.{Asked, check, run, prove, conds, fmt, dis, big, probe}
+use Rattle.wy_top_words.specs.CommandLine.{Asked, check, run, prove, conds, fmt, dis, big, probe, again}
 use Rattle.wy_top.specs.Large.{big_steps}
 use Rattle.wy_top.specs.Launching.{run_steps}
 use Rattle.wy_top_probe.specs.Probing.{probe_steps}
@@ -43,6 +44,7 @@ IsExact (fmt source) s status k = AnswersExactly s (text_steps s kind_of.Layout 
 IsExact (dis source) s status k = AnswersExactly s (text_steps s kind_of.Listing source) status k
 IsExact (big functions seed budget steps) s status k = AnswersExactly s (big_steps s functions seed budget steps) status k
 IsExact (probe source name tuples ticks) s status k = AnswersExactly s (probe_steps s source name tuples ticks) status k
+IsExact (again source cache budget) s status k = AnswersExactly s (renews_file s source cache budget) status k
 
 -- whatever is asked for
 abbrev pub DoesExactly : Type 0

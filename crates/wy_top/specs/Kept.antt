@@ -1,6 +1,9 @@
 -- What the code keeps of a program and of what it owes.
 use Rattle.std.specs.Prelude.{◌≡◌, ◌≤◌, ℕ, List, All, length, map}
 use Rattle.wy_batch.specs.wy_check.Within.{IsWithin}
+use Rattle.wy_cache_text.specs.Files.{Entries}
+use Rattle.wy_cache_text.specs.Seen.{all_held}
+use Rattle.wy_cache_text.specs.declared.entry.Cache.{Cache}
 use Rattle.wy_prove.specs.Answers.{IsFormedThroughout}
 use Rattle.wy_top.specs.Acceptance.{Acceptance, AreVerdicts}
 use Rattle.wy_top.specs.Programs.{Program, conditions_of}
@@ -13,6 +16,7 @@ use Rattle.wy_top_probe.specs.wy_top_source.wy_assign.Assigned.{IsAssigned}
 use Rattle.wy_vc.specs.wy_vc_spec.Limits.{most_conditions}
 use Rattle.wy_cert.specs.Steps.{Certificates}
 use Rattle.wy_top.specs.Owed.{Owes, told_by}
+use Rattle.wy_top.specs.Taken.{AreSomeTaken}
 use Rattle.wy_top_probe.specs.wy_top_answers.wy_vc_laws.shown.Certified.{AllHold, AreFormed}
 use Rattle.wy_term.specs.Condition.{condition_of}
 use Rattle.wy_term.specs.Nodes.{Plain}
@@ -66,6 +70,10 @@ pub record HasVerdicts (p : Program) (certs : Certificates) (budget : ℕ) (j : 
   pub count : length j.conds.list.items ≡ length (conditions_of p)
   pub told : SpellsConditions p j
 
+-- the certificates are those that are kept of the conditions that were judged
+abbrev pub AreKeptOf : Judged → ℕ → Certificates → Type 0
+AreKeptOf j budget certs = AreSomeTaken budget 1 (map (condition_of j.conds.terms) j.conds.list.items) (map known j.verdicts.items) certs
+
 -- the accepted program, with the lines for certificates that aren't valid
 abbrev pub acceptance_in : Accepted → Acceptance
 acceptance_in a = record { program = record { core = core_of a.typed; flow = flow_of a.typed }; lines = a.lines }
@@ -75,6 +83,10 @@ pub record IsWhole (a : Accepted) : Type 0 where
   pub count : a.count ≡ length (conditions_of (acceptance_in a).program)
   pub source : IsOfSource (acceptance_in a).program
   pub holds : AllHold (conditions_of (acceptance_in a).program)
+
+-- the entries of a cache
+abbrev pub entries_in : Cache → Entries
+entries_in cache = all_held cache.entries.items
 
 -- what is answered behind the save
 abbrev pub answer_in : Proof → Answer

@@ -13,8 +13,11 @@ pub mod Sign
 pub mod Programs
 pub mod Acceptance
 pub mod Proofs
+pub mod Caches
+pub mod Again
 -- what functions inside owe each other
 pub mod Kept
+pub mod Taken
 -- what a command comes to
 pub mod Texts
 pub mod Launching
@@ -31,6 +34,8 @@ pub mod Statement
 pub mod Exact
 -- passed on to the crates above
 pub use Rattle.wy_batch.specs as wy_batch
+pub use Rattle.wy_cache.specs as wy_cache
+pub use Rattle.wy_cache_text.specs as wy_cache_text
 pub use Rattle.wy_cert.specs as wy_cert
 pub use Rattle.wy_batch.specs.wy_check as wy_check
 pub use Rattle.wy_gen_sources.specs.wy_code_spec as wy_code_spec

@@ -1,9 +1,34 @@
--- What does the file that `prove` saves come to, where it is supplied?
-use Rattle.std.specs.Prelude.{◌≡◌, ℕ, List, [], true}
+-- What do the files come to that `prove` and `again` save, where they are supplied?
+use Rattle.std.specs.Prelude.{◌≡◌, ℕ, List, [], ◌∷◌, ◌++◌, length, true}
+use Rattle.wy_batch.specs.Known.{Known, count}
+use Rattle.wy_cache.specs.Rekept.{AreFormulas, AreTold}
+use Rattle.wy_cache_text.specs.Files.{Entries, IsReadAs}
+use Rattle.wy_term.specs.Condition.{Condition}
 use Rattle.wy_top.specs.Acceptance.{IsAccepted, are_closed}
-use Rattle.wy_top.specs.Programs.{Program}
+use Rattle.wy_top.specs.Again.{IsCacheOf}
+use Rattle.wy_top.specs.Caches.{AreSeen, is_kept}
+use Rattle.wy_top.specs.Programs.{Program, conditions_of, count_of}
 use Rattle.wy_top.specs.Proofs.{IsProofFile}
 
 -- Where the search closed all leaves of each condition, the program is accepted by the certificates of the file, at each budget, and no line says that one of them isn't valid.
 abbrev pub SavedIsAccepted : Type 0
 SavedIsAccepted = (p : Program) (budget : ℕ) (text : List ℕ) (f : IsProofFile p budget text) → are_closed f.verdicts ≡ true → (cert : List ℕ) (other : ℕ) → IsAccepted cert p f.certificates other (record { program = p; lines = [] })
+
+-- ---- caches
+
+-- the formulas of these conditions can be written
+abbrev pub AreSpelled : List Condition → Type 0
+AreSpelled [] = Unit {0}
+AreSpelled (c ∷ cs) = AreFormulas (c.hyps ++ c.goal ∷ []) × AreSpelled cs
+
+-- all conditions are closed, each of them got a certificate, and the entries of all fit
+pub record IsFull (p : Program) (budget : ℕ) (es : Entries) (text : List ℕ) (f : IsCacheOf p budget es text) : Type 0 where
+  pub closed : are_closed f.verdicts ≡ true
+  pub each : length f.certificates ≡ count_of p
+  pub fits : f.is.behind ≡ []
+
+-- Where a cache that was saved has all conditions of a program, which can be written and whose texts tell them apart, the entries that it is read as keep all of them, whatever the budget, and none is searched.
+abbrev pub RenewedKeepsAll : Type 0
+RenewedKeepsAll =
+    (p : Program) (budget : ℕ) (es : Entries) (text : List ℕ) (f : IsCacheOf p budget es text) → IsFull p budget es text f → AreSpelled (conditions_of p) → AreTold (conditions_of p)
+    → (ds : Entries) → IsReadAs text ds → (other : ℕ) (ks : List Known) → AreSeen ds other (conditions_of p) ks → (count is_kept ks ≡ count_of p) × (are_closed ks ≡ true)

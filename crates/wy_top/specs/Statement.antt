@@ -1,13 +1,14 @@
 -- What does a call on these words come to, and what do the sinks and the files show of it?
 use Rattle.std.specs.Prelude.{◌≡◌, ◌≢◌, ◌⊎◌, ℕ, List, [], Bool, Option, Some, None, Ok, Err, ⊤}
 use Rattle.wy_top.specs.Acceptance.{check_steps}
+use Rattle.wy_top.specs.Again.{Renews, renews_file}
 use Rattle.wy_top.specs.Proofs.{Proves, proves_file}
 use Rattle.wy_top_probe.specs.wy_top_answers.Answers.{refused, no_memory}
 use Rattle.wy_top_probe.specs.wy_top_answers.Showing.{Shown, Sinks}
 use Rattle.wy_top_probe.specs.wy_top_answers.Steps.{Answers, Came, Gives, Sense, Setting}
 use Rattle.wy_top_probe.specs.wy_top_answers.declared.answer.Answer.{Answer}
 use Rattle.wy_top_probe.specs.wy_top_answers.report.Lines.{words_refused}
-use Rattle.wy_top_words.specs.CommandLine.{Asked, check, run, prove, conds, fmt, dis, big, probe, command_of}
+use Rattle.wy_top_words.specs.CommandLine.{Asked, check, run, prove, conds, fmt, dis, big, probe, again, command_of}
 use Rattle.wy_top.specs.Large.{big_steps}
 use Rattle.wy_top.specs.Launching.{run_steps}
 use Rattle.wy_top_probe.specs.Probing.{probe_steps}
@@ -37,17 +38,26 @@ pub record IsRun (s : Setting) (source cert name arguments : List ℕ) (budget s
   pub gives : Gives s (run_steps s source cert name arguments budget) launch
   pub shown : ShowsRun steps stats status k launch
 
--- ---- the command `prove`
+-- ---- commands that save a file
 
--- a file of the certificates that were found was saved, and then the answer is shown; or the answer of why there is nothing to save
-abbrev pub ShowsProof : Setting → List ℕ → List ℕ → ℕ → Saving → ℕ → Sinks → Came Answer → Type 0
-ShowsProof s source output budget v status k (Ok a) = (saved : List ℕ) × Proves s source budget saved × Saves output saved a v status k
-ShowsProof s source output budget v status k (Err a) = Shown a status k × (v.told_after ≡ v.told_before)
+-- a text that is made so was saved under the name, and then the answer is shown; or the answer of why there is nothing to save
+abbrev pub ShowsSaved : (List ℕ → Type 0) → List ℕ → Saving → ℕ → Sinks → Came Answer → Type 0
+ShowsSaved made name v status k (Ok a) = (saved : List ℕ) × made saved × Saves name saved a v status k
+ShowsSaved made name v status k (Err a) = Shown a status k × (v.told_after ≡ v.told_before)
 
-pub record IsProved (s : Setting) (source output : List ℕ) (budget : ℕ) (v : Saving) (status : ℕ) (k : Sinks) : Type 0 where
-  pub proof : Came Answer
-  pub gives : Gives s (proves_file s source budget) proof
-  pub shown : ShowsProof s source output budget v status k proof
+-- the command came to something by these steps, and shows it so
+pub record SavesBy (s : Setting) (step : Sense → Came Answer → Type 0) (made : List ℕ → Type 0) (name : List ℕ) (v : Saving) (status : ℕ) (k : Sinks) : Type 0 where
+  pub last : Came Answer
+  pub gives : Gives s step last
+  pub shown : ShowsSaved made name v status k last
+
+-- a file of the certificates that were found is saved
+abbrev pub IsProved : Setting → List ℕ → List ℕ → ℕ → Saving → ℕ → Sinks → Type 0
+IsProved s source output budget = SavesBy s (proves_file s source budget) (Proves s source budget) output
+
+-- a cache of what is kept and what was found is saved
+abbrev pub IsRenewed : Setting → List ℕ → List ℕ → ℕ → Saving → ℕ → Sinks → Type 0
+IsRenewed s source cache budget = SavesBy s (renews_file s source cache budget) (Renews s source cache budget) cache
 
 -- ---- what is asked for
 
@@ -61,15 +71,18 @@ Does (fmt source) s v status k = IsAnswered s (text_steps s text.Layout source) 
 Does (dis source) s v status k = IsAnswered s (text_steps s text.Listing source) status k
 Does (big functions seed budget steps) s v status k = IsAnswered s (big_steps s functions seed budget steps) status k
 Does (probe source name tuples ticks) s v status k = IsAnswered s (probe_steps s source name tuples ticks) status k
+Does (again source cache budget) s v status k = IsRenewed s source cache budget v status k
 
 -- the name of the file that is saved
 abbrev pub saved_name : Option Asked → List ℕ
 saved_name (Some (prove source output budget)) = output
+saved_name (Some (again source cache budget)) = cache
 saved_name _ = []
 
 -- a file under this name isn't changed
 abbrev pub IsKeptBy : Option Asked → List ℕ → Type 0
 IsKeptBy (Some (prove source output budget)) name = name ≢ output
+IsKeptBy (Some (again source cache budget)) name = name ≢ cache
 IsKeptBy _ name = ⊤
 
 -- what the words ask for was done, or they ask for nothing and are refused

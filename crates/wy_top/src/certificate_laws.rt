@@ -1,6 +1,6 @@
 //! What the certificates that were found are.
 ghost use Rattle.wy_top.specs.Found.{FoundIsGiven};
-ghost use Rattle.wy_top.specs.Saved.{SavedIsAccepted};
+ghost use Rattle.wy_top.specs.Saved.{RenewedKeepsAll, SavedIsAccepted};
 
 /// The certificates for the conditions that were found rise by the numbers of their conditions, and where they are supplied, each of
 /// them is valid for its condition; none is there for another one.
@@ -12,4 +12,10 @@ pub fn found_certificates_are_valid()
 /// budget, 0 too.
 pub fn saved_certificates_are_accepted()
     ensures accepted { SavedIsAccepted }
+{}
+
+/// Where `again` saved a cache with all conditions of a program, another `again` with it keeps all of them, at each budget, and searches
+/// none. It asks that the conditions' formulas can be written and that their texts tell them apart.
+pub fn renewed_caches_keep_all()
+    ensures kept { RenewedKeepsAll }
 {}

@@ -12,6 +12,7 @@ use crate::checking::check;
 use crate::launching::launch_file;
 use crate::making::large;
 use crate::proving::prove_file;
+use crate::repeating::renew_file;
 use crate::running::run;
 use crate::saving::save;
 use crate::texts::{Text, text_answer};
@@ -183,5 +184,13 @@ fn perform<R: Threads + Sync, F: Files, O: Sink, E: Sink>(
             let answer = probe_answer(alloc, source, name, tuples, ticks, files);
             show(&answer, out, err)
         }
+        Words::Again {
+            source,
+            cache,
+            budget,
+        } => match renew_file(rt, alloc, source, cache, budget, workers, files) {
+            Ok(proof) => save(alloc, cache, &proof, files, out, err),
+            Err(answer) => show(&answer, out, err),
+        },
     }
 }

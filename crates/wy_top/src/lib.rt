@@ -24,6 +24,7 @@
 #![tactic(auto)]
 
 mod accepting;
+mod caching;
 mod certificate_laws;
 mod checking;
 mod code_laws;
@@ -41,13 +42,17 @@ mod owing;
 mod proving;
 mod reading;
 mod refusing;
+mod renewing;
+mod repeating;
 mod running;
 mod saving;
 mod texts;
 mod verdict_laws;
 mod writing;
 
-pub use certificate_laws::{found_certificates_are_valid, saved_certificates_are_accepted};
+pub use certificate_laws::{
+    found_certificates_are_valid, renewed_caches_keep_all, saved_certificates_are_accepted,
+};
 pub use code_laws::the_code_of_a_source_is_loadable;
 pub use command_laws::commands_are_exact;
 pub use commands::run_words;

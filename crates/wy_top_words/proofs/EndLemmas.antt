@@ -119,6 +119,7 @@ no_operands k g e = ap (λ (os : List Text). asked k (record g { operands = os }
     go kind.Dis = ap (option_map _) (none_both _)
     go kind.Big = none_both _
     go kind.Probe = none_both _
+    go kind.Again = none_both _
 
 no_order : (k : Kind) (g : Given) → g.operands ≡ [] → ordered k g ≡ None
 no_order k g e = ap (option_and_then (λ a. option_map (with_workers a) (workers_for k g.workers))) (no_operands k g e)

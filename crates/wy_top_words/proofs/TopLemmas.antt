@@ -57,6 +57,7 @@ name_of kind.Fmt = codes "fmt"
 name_of kind.Dis = codes "dis"
 name_of kind.Big = codes "big"
 name_of kind.Probe = codes "probe"
+name_of kind.Again = codes "again"
 
 abbrev ended_line : List Text → Walk
 ended_line words = fold (walked [] names) begun words
@@ -99,6 +100,7 @@ no_turn kind.Fmt word = refl
 no_turn kind.Dis word = refl
 no_turn kind.Big word = refl
 no_turn kind.Probe word = refl
+no_turn kind.Again word = refl
 
 walk_free : (k : Kind) (word : Text) (rest : List Text) → subcommand_met names idle word ≡ Some (name_of k) → walk_fault top_shape names begun (word ∷ rest) ≡ []
 unfolding walk_fault
@@ -116,6 +118,7 @@ line_entered kind.Fmt rest = or_nothing _
 line_entered kind.Dis rest = or_nothing _
 line_entered kind.Big rest = or_nothing _
 line_entered kind.Probe rest = or_nothing _
+line_entered kind.Again rest = or_nothing _
 
 rows_entered : (k : Kind) (rest : List Text) → entered line (Some (name_of k, rest)) ≡ Some (name_of k, rows_after rules [] rest)
 rows_entered kind.Check rest = refl
@@ -126,6 +129,7 @@ rows_entered kind.Fmt rest = refl
 rows_entered kind.Dis rest = refl
 rows_entered kind.Big rest = refl
 rows_entered kind.Probe rest = refl
+rows_entered kind.Again rest = refl
 
 enters : (k : Kind) (word : Text) (rest : List Text) → subcommand_met names idle word ≡ Some (name_of k) → Enters (name_of k) word rest
 enters k word rest met = record {
@@ -134,22 +138,26 @@ enters k word rest met = record {
 }
 
 -- `clap` and the definition know the same names
-chosen : (a b c d e f g h : Bool) → option_map (λ (s : Text × List Text). s.0) (cond (a || false) (Some (codes "check", [])) (cond (b || false) (Some (codes "run", [])) (cond (c || false) (Some (codes "prove", []))
-    (cond (d || false) (Some (codes "conds", [])) (cond (e || false) (Some (codes "fmt", [])) (cond (f || false) (Some (codes "dis", [])) (cond (g || false) (Some (codes "big", [])) (cond (h || false) (Some (codes "probe", [])) None))))))))
-    ≡ option_map name_of (cond a (Some kind.Check) (cond b (Some kind.Run) (cond c (Some kind.Prove) (cond d (Some kind.Conds) (cond e (Some kind.Fmt) (cond f (Some kind.Dis) (cond g (Some kind.Big) (cond h (Some kind.Probe) None))))))))
-chosen true b c d e f g h = refl
-chosen false true c d e f g h = refl
-chosen false false true d e f g h = refl
-chosen false false false true e f g h = refl
-chosen false false false false true f g h = refl
-chosen false false false false false true g h = refl
-chosen false false false false false false true h = refl
-chosen false false false false false false false true = refl
-chosen false false false false false false false false = refl
+chosen : (a b c d e f g h j : Bool) → option_map (λ (s : Text × List Text). s.0) (cond (a || false) (Some (codes "check", [])) (cond (b || false) (Some (codes "run", [])) (cond (c || false) (Some (codes "prove", []))
+    (cond (d || false) (Some (codes "conds", [])) (cond (e || false) (Some (codes "fmt", [])) (cond (f || false) (Some (codes "dis", [])) (cond (g || false) (Some (codes "big", [])) (cond (h || false) (Some (codes "probe", []))
+    (cond (j || false) (Some (codes "again", [])) None)))))))))
+    ≡ option_map name_of (cond a (Some kind.Check) (cond b (Some kind.Run) (cond c (Some kind.Prove) (cond d (Some kind.Conds) (cond e (Some kind.Fmt) (cond f (Some kind.Dis) (cond g (Some kind.Big) (cond h (Some kind.Probe)
+    (cond j (Some kind.Again) None)))))))))
+chosen true b c d e f g h j = refl
+chosen false true c d e f g h j = refl
+chosen false false true d e f g h j = refl
+chosen false false false true e f g h j = refl
+chosen false false false false true f g h j = refl
+chosen false false false false false true g h j = refl
+chosen false false false false false false true h j = refl
+chosen false false false false false false false true j = refl
+chosen false false false false false false false false true = refl
+chosen false false false false false false false false false = refl
 
 met_is : (word : Text) → subcommand_met names idle word ≡ option_map name_of (kind_named word)
 met_is word = chosen (bytes_eq (codes "check") word) (bytes_eq (codes "run") word) (bytes_eq (codes "prove") word) (bytes_eq (codes "conds") word)
     (bytes_eq (codes "fmt") word) (bytes_eq (codes "dis") word) (bytes_eq (codes "big") word) (bytes_eq (codes "probe") word)
+    (bytes_eq (codes "again") word)
 
 named_back : (k : Kind) → kind_named (name_of k) ≡ Some k
 named_back kind.Check = refl
@@ -160,6 +168,7 @@ named_back kind.Fmt = refl
 named_back kind.Dis = refl
 named_back kind.Big = refl
 named_back kind.Probe = refl
+named_back kind.Again = refl
 
 no_fault : (k : Kinds) → IsFaulty k → k ≡ [] → ⊥
 no_fault k f e = subst IsFaulty e f

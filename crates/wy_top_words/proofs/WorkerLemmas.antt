@@ -21,3 +21,4 @@ never_by_workers kind.Fmt g t u n m a b = refl
 never_by_workers kind.Dis g t u n m a b = refl
 never_by_workers kind.Big g t u n m a b = only_asked (asked kind.Big g) _ n a ∙ sym (only_asked (asked kind.Big g) _ m b)
 never_by_workers kind.Probe g t u n m a b = refl
+never_by_workers kind.Again g t u n m a b = only_asked (asked kind.Again g) _ n a ∙ sym (only_asked (asked kind.Again g) _ m b)

@@ -165,6 +165,8 @@ pub data Asked : Type 0 where
   big : ℕ → ℕ → ℕ → ℕ → Asked
   -- source, name, tuples, ticks
   probe : Text → Text → ℕ → ℕ → Asked
+  -- source, cache, budget
+  again : Text → Text → ℕ → Asked
 
 abbrev pub one_of : List Text → Option Text
 one_of (a ∷ []) = Some a
@@ -203,6 +205,10 @@ abbrev pub probe_asked : Given → Option Asked
 probe_asked g = if is_some g.budget || (is_some g.steps || g.stats) then None
     else option_and_then (λ p. option_and_then (λ n. option_map (λ k. probe p.0 p.1 n k) (bounded 0 2000 p.3)) (bounded 1 1000 p.2)) (four_of g.operands)
 
+abbrev pub again_asked : Given → Option Asked
+again_asked g = if is_some g.steps || g.stats then None
+    else option_and_then (λ p. option_map (λ n. again p.0 p.1 n) (budget_within g.budget)) (two_of g.operands)
+
 abbrev pub asked : Kind → Given → Option Asked
 asked kind.Check g = check_asked g
 asked kind.Run g = run_asked g
@@ -212,6 +218,7 @@ asked kind.Fmt g = option_map (λ t. fmt t) (source_of g)
 asked kind.Dis g = option_map (λ t. dis t) (source_of g)
 asked kind.Big g = big_asked g
 asked kind.Probe g = probe_asked g
+asked kind.Again g = again_asked g
 
 -- one worker, where no number is given
 abbrev pub alone : Option Text → Option ℕ
@@ -228,6 +235,7 @@ workers_for kind.Fmt t = alone t
 workers_for kind.Dis t = alone t
 workers_for kind.Big t = workers_within t
 workers_for kind.Probe t = alone t
+workers_for kind.Again t = workers_within t
 
 -- what is asked for, and how many workers are to judge conditions
 pub record Order : Type 0 where
@@ -245,7 +253,8 @@ other_kind_named name = if bytes_eq (codes "conds") name then Some kind.Conds
     else (if bytes_eq (codes "fmt") name then Some kind.Fmt
     else (if bytes_eq (codes "dis") name then Some kind.Dis
     else (if bytes_eq (codes "big") name then Some kind.Big
-    else (if bytes_eq (codes "probe") name then Some kind.Probe else None))))
+    else (if bytes_eq (codes "probe") name then Some kind.Probe
+    else (if bytes_eq (codes "again") name then Some kind.Again else None)))))
 
 abbrev pub kind_named : Text → Option Kind
 kind_named name = if bytes_eq (codes "check") name then Some kind.Check

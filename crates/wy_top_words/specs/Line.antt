@@ -25,5 +25,5 @@ abbrev pub with_leaf : App → Text → App
 with_leaf a name = with_subcommand a (leaf_app name).top
 
 abbrev pub app : App
-app = with_leaf (with_leaf (with_leaf (with_leaf (with_leaf (with_leaf (with_leaf (with_leaf bare_app (codes "check")) (codes "run")) (codes "prove"))
-    (codes "conds")) (codes "fmt")) (codes "dis")) (codes "big")) (codes "probe")
+app = with_leaf (with_leaf (with_leaf (with_leaf (with_leaf (with_leaf (with_leaf (with_leaf (with_leaf bare_app (codes "check")) (codes "run")) (codes "prove"))
+    (codes "conds")) (codes "fmt")) (codes "dis")) (codes "big")) (codes "probe")) (codes "again")

@@ -2,7 +2,7 @@
 use Rattle.std.specs.Prelude.{List, map, option_map, String, string_bytes}
 use Rattle.std.specs.Borrow.{Bor}
 use Rattle.std.specs.declared.alloc.Global.{Global}
-use Rattle.wy_top_words.specs.CommandLine.{Asked, Given, Order, Text, with_workers, check, run, prove, conds, fmt, dis, big, probe}
+use Rattle.wy_top_words.specs.CommandLine.{Asked, Given, Order, Text, with_workers, check, run, prove, conds, fmt, dis, big, probe, again}
 use Rattle.wy_top_words.specs.declared.command.Ordered.{Ordered}
 use Rattle.wy_top_words.specs.declared.command.Words.{Words}
 use Rattle.wy_top_words.specs.declared.command.Words.TheVariants as words
@@ -37,6 +37,7 @@ asked_in (words.Fmt source) = fmt source.now
 asked_in (words.Dis source) = dis source.now
 asked_in (words.Big functions seed budget steps) = big functions seed budget steps
 asked_in (words.Probe source name tuples ticks) = probe source.now name.now tuples ticks
+asked_in (words.Again source cache budget) = again source.now cache.now budget
 
 -- the command, with the number of its workers
 abbrev pub order_in : Ordered → Order

@@ -56,4 +56,5 @@ top_shape = record (new_shape (codes "wy")) {
 
 abbrev pub leaves : List Shape
 leaves = leaf_shape (codes "check") ∷ leaf_shape (codes "run") ∷ leaf_shape (codes "prove") ∷ leaf_shape (codes "conds")
-    ∷ leaf_shape (codes "fmt") ∷ leaf_shape (codes "dis") ∷ leaf_shape (codes "big") ∷ leaf_shape (codes "probe") ∷ []
+    ∷ leaf_shape (codes "fmt") ∷ leaf_shape (codes "dis") ∷ leaf_shape (codes "big") ∷ leaf_shape (codes "probe")
+    ∷ leaf_shape (codes "again") ∷ []

@@ -5,6 +5,7 @@ ghost use Rattle.wy_top_words.specs.Plain.{asked_in, given_in, order_in, text_in
 
 use crate::number::{budget_of, number_within, steps_of, workers_of};
 use crate::probing::probe;
+use crate::repeating::again;
 
 /// A command, with the texts of its operands and the numbers of its options.
 #[derive(Clone, Copy, Debug, PartialEq, Eq)]
@@ -58,6 +59,12 @@ pub enum Words<'a> {
         tuples: u64,
         ticks: u64,
     },
+    /// The verdicts of all conditions of the program in the file `source`, with what the file `cache` shows, which is saved anew.
+    Again {
+        source: &'a str,
+        cache: &'a str,
+        budget: u64,
+    },
 }
 
 /// A command, and how many workers judge the conditions of its program: from 1 to 64, which changes nothing of what it comes to. It is 1
@@ -79,6 +86,7 @@ pub enum Kind {
     Dis,
     Big,
     Probe,
+    Again,
 }
 
 /// The command with this name.
@@ -109,6 +117,8 @@ fn other_kind(name: &str) -> Option<Kind>
         Some(Kind::Big)
     } else if name == "probe" {
         Some(Kind::Probe)
+    } else if name == "again" {
+        Some(Kind::Again)
     } else {
         None
     }
@@ -140,7 +150,7 @@ fn workers(kind: Kind, text: Option<&str>) -> Option<u64>
     ensures within { IfSome result (λ n. (1 ≤ n) × (n ≤ 64)) }
 {
     match kind {
-        Kind::Check | Kind::Run | Kind::Prove | Kind::Big => workers_of(text),
+        Kind::Check | Kind::Run | Kind::Prove | Kind::Big | Kind::Again => workers_of(text),
         Kind::Conds | Kind::Fmt | Kind::Dis | Kind::Probe => match text {
             None => Some(1),
             Some(_) => None,
@@ -170,6 +180,7 @@ fn meaning<'a, 'b>(kind: Kind, given: Given<'a, 'b>) -> Option<Words<'a>>
         },
         Kind::Big => big(given),
         Kind::Probe => probe(given),
+        Kind::Again => again(given),
     }
 }
 
@@ -258,7 +269,7 @@ fn one<'a>(operands: &[&'a str]) -> Option<&'a str>
     Some(*only)
 }
 
-fn two<'a>(operands: &[&'a str]) -> Option<(&'a str, &'a str)>
+pub fn two<'a>(operands: &[&'a str]) -> Option<(&'a str, &'a str)>
     ensures value { option_map (λ p. (p.0.now, p.1.now)) result ≡ two_of (texts_in operands.now) }
 {
     let [first, second] = operands else {

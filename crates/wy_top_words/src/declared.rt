@@ -6,7 +6,7 @@ ghost use Rattle.wy_top_words.specs.Line.{app, bare_app, operands_rule, stats_ru
 use clap::{Arg, ArgAction, Command};
 use std::alloc::{AllocError, Global};
 
-/// The eight commands as subcommands. Each has the same options and any number of operands: which of them a command
+/// The nine commands as subcommands. Each has the same options and any number of operands: which of them a command
 /// takes is tested behind.
 pub fn command_line<'a>(alloc: Global) -> Result<Command<'a>, AllocError>
     ensures app { IfOk result (λ c. app_of c ≡ app) }
@@ -19,7 +19,8 @@ pub fn command_line<'a>(alloc: Global) -> Result<Command<'a>, AllocError>
     let line = with_command(alloc, line, "fmt")?;
     let line = with_command(alloc, line, "dis")?;
     let line = with_command(alloc, line, "big")?;
-    with_command(alloc, line, "probe")
+    let line = with_command(alloc, line, "probe")?;
+    with_command(alloc, line, "again")
 }
 
 // No program's name stands first, and there is no word for help or a version.

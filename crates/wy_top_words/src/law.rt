@@ -1,6 +1,6 @@
 //! What small command lines mean.
 ghost use Rattle.std.specs.Prelude.{◌≡◌, ◌∷◌, [], None, Some, codes, false, true};
-ghost use Rattle.wy_top_words.specs.CommandLine.{NeverByWorkers, big, check, command_of, conds, order_of, probe, run, with_workers};
+ghost use Rattle.wy_top_words.specs.CommandLine.{NeverByWorkers, again, big, check, command_of, conds, order_of, probe, run, with_workers};
 
 /// Options stand before, between and behind the operands, as two words or as one, each once at most, and `--` ends them.
 pub fn lines_mean()
@@ -35,6 +35,10 @@ pub fn lines_mean()
     ensures untried { command_of (codes "probe" ∷ codes "a" ∷ codes "f" ∷ codes "0" ∷ codes "9" ∷ []) ≡ None }
     ensures long { command_of (codes "probe" ∷ codes "a" ∷ codes "f" ∷ codes "9" ∷ codes "2001" ∷ []) ≡ None }
     ensures inquiring { order_of (codes "probe" ∷ codes "a" ∷ codes "f" ∷ codes "9" ∷ codes "9" ∷ codes "--workers" ∷ codes "2" ∷ []) ≡ None }
+    ensures renewed { order_of (codes "again" ∷ codes "a" ∷ codes "c" ∷ codes "--workers" ∷ codes "4" ∷ []) ≡ Some (with_workers (again (codes "a") (codes "c") 20000) 4) }
+    ensures spent { command_of (codes "again" ∷ codes "--budget=0" ∷ codes "a" ∷ codes "c" ∷ []) ≡ Some (again (codes "a") (codes "c") 0) }
+    ensures uncached { command_of (codes "again" ∷ codes "a" ∷ []) ≡ None }
+    ensures stepped { command_of (codes "again" ∷ codes "a" ∷ codes "c" ∷ codes "--steps" ∷ codes "5" ∷ []) ≡ None }
     ensures nothing { command_of [] ≡ None }
     ensures other { command_of (codes "help" ∷ []) ≡ None }
 {}

@@ -10,6 +10,7 @@ mod law;
 mod number;
 mod probing;
 mod read;
+mod repeating;
 
 pub use command::{Ordered, Words};
 pub use law::{lines_mean, workers_change_nothing};

@@ -53,7 +53,7 @@ returns-in-Ok-prove_file-clause-does g c =
     let during = during_before (g.F.Files.told c.args.files.now) _ _ _ _ _ _ c.in-Ok-prove_file.ensures.load_count c.save.ensures.load_count c.in-Ok-prove_file.ensures.miss_count c.save.ensures.miss_count in
     let a = c.in-Ok-prove_file.proof.answer in
     rw c.in-Prove.is (record {
-      proof = Ok a;
+      last = Ok a;
       gives = c.in-Ok-prove_file.ensures.gives s during;
       shown = (
         c.in-Ok-prove_file.proof.saved,
@@ -71,7 +71,37 @@ pub returns-in-Err-prove_file-clause-does : goal.returns-in-Err-prove_file-claus
 returns-in-Err-prove_file-clause-does g c =
     let s = setting (g.F.Files.told c.args.files.now) (g.F.Files.load_faults c.args.files.now) (g.F.Files.load_faults c.prove_file.new.files) (g.F.Files.misses c.args.files.now) (g.F.Files.misses c.prove_file.new.files) in
     rw c.in-Prove.is (record {
-      proof = Err c.in-Err-prove_file.answer;
+      last = Err c.in-Err-prove_file.answer;
       gives = c.in-Err-prove_file.ensures.gives s (during_itself _ _ _ _ _ c.in-Err-prove_file.ensures.load_count c.in-Err-prove_file.ensures.miss_count);
       shown = (c.show-in-Err-prove_file.ensures.shown, c.in-Err-prove_file.ensures.kept c.in-Prove.output.now);
+    })
+
+pub returns-in-Ok-renew_file-clause-does : goal.returns-in-Ok-renew_file-clause-does
+returns-in-Ok-renew_file-clause-does g c =
+    let save = c.save-in-Ok-renew_file in
+    let s = setting (g.F.Files.told c.args.files.now) (g.F.Files.load_faults c.args.files.now) (g.F.Files.load_faults save.new.files) (g.F.Files.misses c.args.files.now) (g.F.Files.misses save.new.files) in
+    let during = during_before (g.F.Files.told c.args.files.now) _ _ _ _ _ _ c.in-Ok-renew_file.ensures.load_count save.ensures.load_count c.in-Ok-renew_file.ensures.miss_count save.ensures.miss_count in
+    let a = c.in-Ok-renew_file.proof.answer in
+    rw c.in-Again.is (record {
+      last = Ok a;
+      gives = c.in-Ok-renew_file.ensures.gives s during;
+      shown = (
+        c.in-Ok-renew_file.proof.saved,
+        c.in-Ok-renew_file.ensures.file s during,
+        saves_from c.in-Again.cache.now c.in-Ok-renew_file.proof.saved a (g.F.Files.told c.args.files.now c.in-Again.cache.now) _ _ (g.F.Files.save_faults c.args.files.now) _ _ _ _
+            (c.in-Ok-renew_file.ensures.kept c.in-Again.cache.now) c.in-Ok-renew_file.ensures.save_count save.ensures.saves,
+      );
+    })
+
+pub returns-in-Ok-renew_file-clause-kept : goal.returns-in-Ok-renew_file-clause-kept
+returns-in-Ok-renew_file-clause-kept g c = λ other h.
+    c.save-in-Ok-renew_file.ensures.kept other (subst (λ (w : Words). IsKeptBy (Some (asked_in w)) other) c.in-Again.is h) ∙ c.in-Ok-renew_file.ensures.kept other
+
+pub returns-in-Err-renew_file-clause-does : goal.returns-in-Err-renew_file-clause-does
+returns-in-Err-renew_file-clause-does g c =
+    let s = setting (g.F.Files.told c.args.files.now) (g.F.Files.load_faults c.args.files.now) (g.F.Files.load_faults c.renew_file.new.files) (g.F.Files.misses c.args.files.now) (g.F.Files.misses c.renew_file.new.files) in
+    rw c.in-Again.is (record {
+      last = Err c.in-Err-renew_file.answer;
+      gives = c.in-Err-renew_file.ensures.gives s (during_itself _ _ _ _ _ c.in-Err-renew_file.ensures.load_count c.in-Err-renew_file.ensures.miss_count);
+      shown = (c.show-in-Err-renew_file.ensures.shown, c.in-Err-renew_file.ensures.kept c.in-Again.cache.now);
     })

@@ -18,4 +18,5 @@ returns c =
     let fmt = leaf _ _ _ (codes "fmt") c.in_ok-line-5.ensures.app conds in
     let dis = leaf _ _ _ (codes "dis") c.in_ok-line-6.ensures.app fmt in
     let big = leaf _ _ _ (codes "big") c.in_ok-line-7.ensures.app dis in
-    record { app = IfOk-weaker c.with_command-8.result _ _ (λ m h. leaf _ _ _ (codes "probe") h big) c.with_command-8.ensures.app }
+    let probe = leaf _ _ _ (codes "probe") c.in_ok-line-8.ensures.app big in
+    record { app = IfOk-weaker c.with_command-9.result _ _ (λ m h. leaf _ _ _ (codes "again") h probe) c.with_command-9.ensures.app }

@@ -31,6 +31,10 @@ returns c = record {
   untried = refl;
   long = refl;
   inquiring = refl;
+  renewed = refl;
+  spent = refl;
+  uncached = refl;
+  stepped = refl;
   nothing = refl;
   other = refl;
 }
