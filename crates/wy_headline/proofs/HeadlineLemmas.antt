@@ -1,10 +1,11 @@
 -- The headline, put together.
-use Rattle.std.proofs.Common.{◌≡◌, ◌≢◌, ◌⊎◌, ◌<◌, inl, inr, ℕ, List, [], Bool, Some, None, Ok, Err, sym, ap, subst, arith}
+use Rattle.std.proofs.Common.{◌≡◌, ◌≢◌, ◌⊎◌, ◌<◌, inl, inr, ℕ, List, [], map, Bool, Some, None, Ok, Err, sym, ap, subst, arith}
 use Rattle.std.specs.Prelude.{⊤}
 use Rattle.wy_top.specs.wy_top_answers.Showing.{Shown, ShowsWhole, Sinks}
 use Rattle.wy_top.specs.wy_top_answers.Steps.{Came, EndsFree, EndsOutside, Setting, due, ends, goes_on, stated}
 use Rattle.wy_top.specs.wy_top_answers.declared.answer.Answer.{Answer}
-use Rattle.wy_top.specs.wy_mach_run.Running.{state_of}
+use Rattle.wy_top.specs.wy_mach_run.Running.{Counts, state_of}
+use Rattle.wy_value.specs.Seen.{seen}
 use Rattle.wy_top.specs.Acceptance.{Acceptance}
 use Rattle.wy_top.specs.Launching.{run_steps, starts}
 use Rattle.wy_top.specs.Runs as code
@@ -12,7 +13,7 @@ use Rattle.wy_top.specs.Statement as statement
 use Rattle.wy_top.specs.declared.launching.Launch.{Launch}
 use Rattle.wy_headline.specs.Accepted.{AcceptsFile, AreTold, IsCutShort}
 use Rattle.wy_headline.specs.Headline.{Accepts, HasNoRun, Headline, IsBehind, RunsAreRight}
-use Rattle.wy_headline.specs.Runs.{Entry}
+use Rattle.wy_headline.specs.Runs.{Entry, IsCounted}
 use Rattle.wy_headline.specs.Started.{IsStarted}
 use Rattle.wy_headline.proofs.ApartLemmas.{Apart, outside_apart, run_apart}
 use Rattle.wy_headline.proofs.ExactLemmas.{shown_short, whole_or}
@@ -146,7 +147,9 @@ module _ (s : Setting) (source cert name arguments : List ℕ) (budget steps : �
       let sound = faultless_run s cert budget of.file.bytes of.acceptance of.file.accepts name arguments l.start started in
       let st = state_of l.start steps in
       let right = run.right steps in
-      let shows : Shows e l.lines stats steps status k st = subst (λ (b : Bool). code.Shows l.lines b stats st status k) started.has_result shown in
+      let shows : Shows e l.lines stats steps status k st =
+      subst (λ (b : Bool). code.Shows l.lines b stats (IsCounted e steps) st status k) started.has_result
+      (subst (λ (its : Code). code.Shows l.lines l.start.has_result stats (Counts its l.start.entry (map seen l.start.args) steps) st status k) started.code shown) in
       let is_of = status_of e l.lines stats steps status k st shows in
       let result = result_of e l.lines stats steps status k st right shows in
       let spent = spent_of e l.lines stats steps status k st right shows in

@@ -42,8 +42,8 @@ pub record Headline (s : Setting) (source cert name arguments : List ℕ) (budge
   pub refused : run ≡ None → (a : Answer) × HasNoRun s source cert name arguments budget a × Shown a status k
   -- It never faults.
   pub never_faults : IfSome run NeverFaults
-  -- Result and output: at status 0 the program is done, and out took what it printed and the text of its value.
-  pub result : IfSome run (λ e. status ≡ 0 → ShowsResult e lines stats k)
+  -- Result and output: at status 0 the program is done, and out took what it printed and the text of its value. The copies that are told were counted in its run.
+  pub result : IfSome run (λ e. status ≡ 0 → ShowsResult e lines stats steps k)
   -- Postcondition: what the program gives is in its type, and each ensures clause is true of it.
   pub postcondition : IfSome run MeetsPostcondition
   -- Steps: at status 8 it isn't done at any number of ticks for which there were steps enough; and where it is, it is done, a failed sink and want of memory aside.
@@ -51,7 +51,7 @@ pub record Headline (s : Setting) (source cert name arguments : List ℕ) (budge
   pub enough : IfSome run (λ e. (v : Datum) (output : List ℕ) → IsDoneWithin e steps v output → EndsDone e v output status k ⊎ ((status ≡ 5) ⊎ (status ≡ 9)))
   -- Status: there are these four. At 5 and 9 too out took nothing but a front of what the program may write.
   pub status_is : IfSome run (λ e. IsOfRun status)
-  pub sink_failed : IfSome run (λ e. status ≡ 5 → ShowsFailed e lines k)
+  pub sink_failed : IfSome run (λ e. status ≡ 5 → ShowsFailed e lines stats steps k)
   pub no_memory : IfSome run (λ e. status ≡ 9 → ShowsCutOff e lines k)
 
 -- so it is with each run that the words ask for
