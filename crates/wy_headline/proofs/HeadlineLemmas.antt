@@ -11,6 +11,7 @@ use Rattle.wy_top.specs.Launching.{run_steps, starts}
 use Rattle.wy_top.specs.Runs as code
 use Rattle.wy_top.specs.Statement as statement
 use Rattle.wy_top.specs.declared.launching.Launch.{Launch}
+use Rattle.wy_code.specs.declared.routines.Code.{Code}
 use Rattle.wy_headline.specs.Accepted.{AcceptsFile, AreTold, IsCutShort}
 use Rattle.wy_headline.specs.Headline.{Accepts, HasNoRun, Headline, IsBehind, RunsAreRight}
 use Rattle.wy_headline.specs.Runs.{Entry, IsCounted}
