@@ -8,6 +8,7 @@ pub mod CertifiedLemmas
 pub mod StartedLemmas
 pub mod CheckLemmas
 pub mod RunLemmas
+pub mod UnrefusedLemmas
 pub mod HeadlineLemmas
 pub mod LargeLemmas
 pub mod SeenLemmas

@@ -21,6 +21,10 @@ Accepts s source cert budget = (a : Acceptance) × AcceptsFile s source cert bud
 abbrev pub IsBehind : ℕ → Type 0
 IsBehind status = (status ≡ 0) ⊎ ((status ≡ 7) ⊎ ((status ≡ 8) ⊎ (status ≡ 11)))
 
+-- the status where a file is absent, the source is refused, there are no certificates, or a file is too long: these stand before a run
+abbrev pub IsBefore : ℕ → Type 0
+IsBefore status = (status ≡ 3) ⊎ ((status ≡ 1) ⊎ ((status ≡ 6) ⊎ (status ≡ 10)))
+
 -- the status of a run: done, its steps spent, a sink that failed, want of memory
 abbrev pub IsOfRun : ℕ → Type 0
 IsOfRun status = (status ≡ 0) ⊎ ((status ≡ 8) ⊎ ((status ≡ 5) ⊎ (status ≡ 9)))
@@ -36,6 +40,8 @@ pub record Headline (s : Setting) (source cert name arguments : List ℕ) (budge
   -- Accepted exactly where: a run, and a refusal of its entry or its arguments, come only where the program is accepted; and where its files are told and it is accepted, what is due of the entry and the arguments is what comes, unless it is cut short.
   pub accepted : IsBehind status → Accepts s source cert budget
   pub accepted_where : AreTold s source cert → (a : Acceptance) → AcceptsFile s source cert budget a → (b : Answer) → starts name arguments a due (Err b) → ShowsWhole b status k ⊎ IsCutShort s status k
+  -- Never refused: no answer that stands before a run comes where it is accepted.
+  pub never_refused : AreTold s source cert → Accepts s source cert budget → IsBefore status → ⊥
   -- A run starts exactly where: it is one of the accepted program from the entry that the words name, on the values that they spell, which meet it; and where these files are told, each such run is the one that starts, unless that is cut short. Else the answer of why is shown.
   pub starts_only : IfSome run (IsStarted s source cert name arguments budget lines)
   pub starts_where : AreTold s source cert → (its : List ℕ) (e : Entry) → IsStarted s source cert name arguments budget its e → (run ≡ Some e) ⊎ IsCutShort s status k
