@@ -19,6 +19,7 @@ use Rattle.wy_headline.specs.Headline.{Accepts, HasNoRun, Headline, IsBefore, Is
 use Rattle.wy_headline.specs.Runs.{Entry, IsCounted}
 use Rattle.wy_headline.specs.Started.{IsStarted}
 use Rattle.wy_headline.proofs.ApartLemmas.{Apart, outside_apart, run_apart}
+use Rattle.wy_headline.proofs.KeptLemmas.{sources_keep}
 use Rattle.wy_headline.proofs.ExactLemmas.{shown_short, whole_or}
 use Rattle.wy_headline.proofs.RunLemmas.{Shows, cut_off_of, enough_of, failed_of, result_of, spent_of, status_of}
 use Rattle.wy_headline.proofs.StartedLemmas.{IsRunOf, accepts_in, entry_of, faultless_run, file_due, is_start, launch_in, one_entry, right_run, run_due, run_of_steps}
@@ -177,6 +178,7 @@ module _ (s : Setting) (source cert name arguments : List ℕ) (budget steps : �
         starts_where = λ told its e h. inr (refused_due a apart shown (launch_in s source cert name arguments budget its e h) (only _ (run_due s source cert name arguments budget its e told h)));
         refused = λ is. (a, none, shown);
         never_faults = tt;
+        nothing_dead = tt;
         result = tt;
         postcondition = tt;
         spent = tt;
@@ -218,6 +220,7 @@ module _ (s : Setting) (source cert name arguments : List ℕ) (budget steps : �
         starts_where = λ told its f h. same_run l of told.source_is its f h (only _ (run_due s source cert name arguments budget its f told h));
         refused = λ is. absurd (no_entry e is);
         never_faults = sound.no_fault;
+        nothing_dead = sources_keep of.file.bytes core of.acceptance.program.flow of.file.accepts.owes.program;
         result = result;
         postcondition = sound.fulfils;
         spent = spent;

@@ -1,4 +1,5 @@
 pub mod SourceLemmas
+pub mod KeptLemmas
 pub mod FaultLemmas
 pub mod AcceptedLemmas
 pub mod StepLemmas
