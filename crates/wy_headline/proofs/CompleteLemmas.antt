@@ -73,7 +73,7 @@ module _ (s : Setting) (v : Saving) (status : ℕ) (k : Sinks) (none : NoneRose 
 
   module _ (source cert name arguments : List ℕ) (budget steps : ℕ) (stats : Bool) where
     -- the run that starts is done, where there are steps enough
-    by_status : (e : Entry) (lines : List ℕ) (d : Datum) (output : List ℕ) → (status ≡ 5 → ShowsFailed e lines k) → EndsDone e d output status k ⊎ ((status ≡ 5) ⊎ (status ≡ 9)) → EndsDone e d output status k ⊎ (status ≡ 9)
+    by_status : (e : Entry) (lines : List ℕ) (d : Datum) (output : List ℕ) → (status ≡ 5 → ShowsFailed e lines stats steps k) → EndsDone e d output status k ⊎ ((status ≡ 5) ⊎ (status ≡ 9)) → EndsDone e d output status k ⊎ (status ≡ 9)
     by_status e lines d output at_five (inl done) = inl done
     by_status e lines d output at_five (inr (inl five)) = let f = at_five five in absurd (no_sink f.rose)
     by_status e lines d output at_five (inr (inr nine)) = inr nine
@@ -85,12 +85,12 @@ module _ (s : Setting) (v : Saving) (status : ℕ) (k : Sinks) (none : NoneRose 
         by : (h.run ≡ Some e) ⊎ IsCutShort s status k → EndsDone e d output status k ⊎ (status ≡ 9)
         by (inl same) =
             by_status e h.lines d output
-            (subst (λ (o : Option Entry). IfSome o (λ x. status ≡ 5 → ShowsFailed x h.lines k)) same h.sink_failed)
+            (subst (λ (o : Option Entry). IfSome o (λ x. status ≡ 5 → ShowsFailed x h.lines stats steps k)) same h.sink_failed)
             (subst (λ (o : Option Entry). IfSome o (λ x. (w : Datum) (out : List ℕ) → IsDoneWithin x steps w out → EndsDone x w out status k ⊎ ((status ≡ 5) ⊎ (status ≡ 9)))) same h.enough d output within)
         by (inr short) = inr (short_9 short)
 
     ran_whole : (l : Launch) → code.Ran l steps stats status k → ShowsRunWhole steps stats status k (Ok l) ⊎ (status ≡ 9)
-    ran_whole l (code.finished copies nodes zero took err) = inl (code.finished copies nodes zero took err, inl zero)
+    ran_whole l (code.finished copies nodes zero took counts err) = inl (code.finished copies nodes zero took counts err, inl zero)
     ran_whole l (code.spends eight took err) = inl (code.spends eight took err, inr eight)
     ran_whole l (code.sink_failed five rose took err) = absurd (no_sink rose)
     ran_whole l (code.no_memory nine took err) = inr nine

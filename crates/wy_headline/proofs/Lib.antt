@@ -1,4 +1,5 @@
 pub mod SourceLemmas
+pub mod KeptLemmas
 pub mod FaultLemmas
 pub mod AcceptedLemmas
 pub mod StepLemmas
@@ -8,6 +9,7 @@ pub mod CertifiedLemmas
 pub mod StartedLemmas
 pub mod CheckLemmas
 pub mod RunLemmas
+pub mod UnrefusedLemmas
 pub mod HeadlineLemmas
 pub mod LargeLemmas
 pub mod SeenLemmas

@@ -14,7 +14,7 @@ use Rattle.wy_sound.specs.wy_sem.Operations.{or_null}
 use Rattle.wy_sound.proofs.wy_sem_proofs.Growth.{is_unique}
 use Rattle.wy_value.specs.Datum.{Datum}
 use Rattle.wy_headline.specs.Headline.{IsOfRun}
-use Rattle.wy_headline.specs.Runs.{EndsDone, Entry, IsDone, IsDoneWithin, ShowsCutOff, ShowsFailed, ShowsResult, ShowsSpent, TookOfRun, in_all, so_far, wrote}
+use Rattle.wy_headline.specs.Runs.{EndsDone, Entry, IsCounted, IsDone, IsDoneWithin, ShowsCutOff, ShowsFailed, ShowsResult, ShowsSpent, TookErr, TookOfRun, in_all, of_lines, of_result, of_spent, so_far, wrote}
 
 -- a state of the run of an entry, behind so many steps
 abbrev pub IsOf : Entry → ℕ → State → Type 0
@@ -30,12 +30,21 @@ took_of_run e steps before after Stuck h took = absurd h
 module _ (e : Entry) (lines : List ℕ) (stats : Bool) (steps status : ℕ) (k : Sinks) where
   -- the run shows itself so, by the steps of the code
   abbrev pub Shows : State → Type 0
-  Shows st = code.Shows lines (is_some e.routine.result) stats st status k
+  Shows st = code.Shows lines (is_some e.routine.result) stats (IsCounted e steps) st status k
 
-  pub result_of : (st : State) → IsOf e steps st → Shows st → status ≡ 0 → ShowsResult e lines stats k
-  result_of (Runs fr callers output) h (code.finished copies nodes zero took err) is = absurd took
-  result_of (Ended v output) h (code.finished copies nodes zero took err) is = record { value = v; output = output; done = h; out = took.1; copies = copies; nodes = nodes; left = took.0; err = err }
-  result_of Stuck h (code.finished copies nodes zero took err) is = absurd h
+  took_err : (st : State) → IsOf e steps st → code.TookOf lines (is_some e.routine.result) stats (IsCounted e steps) st k → TookErr e lines stats steps k
+  took_err st h (code.of_lines front) = of_lines front
+  took_err (Runs fr callers output) h (code.of_done copies nodes took counts front) = absurd took
+  took_err (Ended v output) h (code.of_done copies nodes took counts front) = of_result v output h copies nodes counts front
+  took_err Stuck h (code.of_done copies nodes took counts front) = absurd h
+  took_err (Runs fr callers output) h (code.of_spent took front) = of_spent output h front
+  took_err (Ended v output) h (code.of_spent took front) = absurd took
+  took_err Stuck h (code.of_spent took front) = absurd h
+
+  pub result_of : (st : State) → IsOf e steps st → Shows st → status ≡ 0 → ShowsResult e lines stats steps k
+  result_of (Runs fr callers output) h (code.finished copies nodes zero took counts err) is = absurd took
+  result_of (Ended v output) h (code.finished copies nodes zero took counts err) is = record { value = v; output = output; done = h; out = took.1; copies = copies; nodes = nodes; left = took.0; counted = counts; err = err }
+  result_of Stuck h (code.finished copies nodes zero took counts err) is = absurd h
   result_of st h (code.spends eight took err) is = absurd (omega (arith, eight, is))
   result_of st h (code.sink_failed five rose took err) is = absurd (omega (arith, five, is))
   result_of st h (code.no_memory nine took err) is = absurd (omega (arith, nine, is))
@@ -44,24 +53,24 @@ module _ (e : Entry) (lines : List ℕ) (stats : Bool) (steps status : ℕ) (k :
   spent_of (Runs fr callers output) h (code.spends eight took err) is = record { output = output; goes = h; out = took; err = err }
   spent_of (Ended v output) h (code.spends eight took err) is = absurd took
   spent_of Stuck h (code.spends eight took err) is = absurd h
-  spent_of st h (code.finished copies nodes zero took err) is = absurd (omega (arith, zero, is))
+  spent_of st h (code.finished copies nodes zero took counts err) is = absurd (omega (arith, zero, is))
   spent_of st h (code.sink_failed five rose took err) is = absurd (omega (arith, five, is))
   spent_of st h (code.no_memory nine took err) is = absurd (omega (arith, nine, is))
 
-  pub failed_of : (st : State) → IsOf e steps st → Shows st → status ≡ 5 → ShowsFailed e lines k
-  failed_of st h (code.finished copies nodes zero took err) is = absurd (omega (arith, zero, is))
+  pub failed_of : (st : State) → IsOf e steps st → Shows st → status ≡ 5 → ShowsFailed e lines stats steps k
+  failed_of st h (code.finished copies nodes zero took counts err) is = absurd (omega (arith, zero, is))
   failed_of st h (code.spends eight took err) is = absurd (omega (arith, eight, is))
-  failed_of st h (code.sink_failed five rose took err) is = record { rose = rose; out = took_of_run e steps k.out_before k.out_after st h took; err = err }
+  failed_of st h (code.sink_failed five rose took err) is = record { rose = rose; out = took_of_run e steps k.out_before k.out_after st h took; err = took_err st h err }
   failed_of st h (code.no_memory nine took err) is = absurd (omega (arith, nine, is))
 
   pub cut_off_of : (st : State) → IsOf e steps st → Shows st → status ≡ 9 → ShowsCutOff e lines k
-  cut_off_of st h (code.finished copies nodes zero took err) is = absurd (omega (arith, zero, is))
+  cut_off_of st h (code.finished copies nodes zero took counts err) is = absurd (omega (arith, zero, is))
   cut_off_of st h (code.spends eight took err) is = absurd (omega (arith, eight, is))
   cut_off_of st h (code.sink_failed five rose took err) is = absurd (omega (arith, five, is))
   cut_off_of st h (code.no_memory nine took err) is = record { out = took_of_run e steps k.out_before k.out_after st h took; err = err }
 
   pub status_of : (st : State) → Shows st → IsOfRun status
-  status_of st (code.finished copies nodes zero took err) = inl zero
+  status_of st (code.finished copies nodes zero took counts err) = inl zero
   status_of st (code.spends eight took err) = inr (inl eight)
   status_of st (code.sink_failed five rose took err) = inr (inr (inl five))
   status_of st (code.no_memory nine took err) = inr (inr (inr nine))
@@ -81,7 +90,7 @@ one_end e d output g ticks v m is =
     (sym g.is ∙ ap or_null (same_value g.value v g.meter.output m.output same), sym g.same ∙ same_output g.value v g.meter.output m.output same)
 
 -- where there are steps enough, the run is done
-pub enough_of : (e : Entry) (lines : List ℕ) (stats : Bool) (steps status : ℕ) (k : Sinks) → IsOfRun status → (status ≡ 0 → ShowsResult e lines stats k) → (status ≡ 8 → ShowsSpent e lines steps k)
+pub enough_of : (e : Entry) (lines : List ℕ) (stats : Bool) (steps status : ℕ) (k : Sinks) → IsOfRun status → (status ≡ 0 → ShowsResult e lines stats steps k) → (status ≡ 8 → ShowsSpent e lines steps k)
     → (v : Datum) (output : List ℕ) → IsDoneWithin e steps v output → EndsDone e v output status k ⊎ ((status ≡ 5) ⊎ (status ≡ 9))
 enough_of e lines stats steps status k (inl zero) result spent v output d =
     let r = result zero in

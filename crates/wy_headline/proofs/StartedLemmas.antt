@@ -93,7 +93,7 @@ alone_due s name bytes told h =
     let taken : takes_with file h.program.imports due (Ok bytes) = subst (λ (imports : List (List ℕ × ℕ)). takes_with file imports due (Ok bytes)) (sym h.nothing) refl in
     goes_on all (goes_on file read behind) taken
 
-closed_so : (s : Setting) (cert : List ℕ) (budget : ℕ) (bytes : List ℕ) (a : Acceptance) (h : AcceptsBytes s cert budget bytes a) → are_closed h.verdicts ≡ true
+pub closed_so : (s : Setting) (cert : List ℕ) (budget : ℕ) (bytes : List ℕ) (a : Acceptance) (h : AcceptsBytes s cert budget bytes a) → are_closed h.verdicts ≡ true
 closed_so s cert budget bytes a h = closed_all h.certs budget 1 (conditions_of a.program) h.verdicts h.known h.certified
 
 -- the certificates of a told file, or none
@@ -121,7 +121,7 @@ accepted_hold s cert budget bytes a h =
     closed_is_true h.certs budget 1 (conditions_of a.program) h.verdicts (given_sorted s cert (count_of a.program) h.certs h.given)
     (premises_met a.program.core a.program.flow) h.known (closed_so s cert budget bytes a h)
 
-same_bytes : (t : Told) (bs cs : List ℕ) → t ≢ Unknown → MayBe t bs → MayBe t cs → bs ≡ cs
+pub same_bytes : (t : Told) (bs cs : List ℕ) → t ≢ Unknown → MayBe t bs → MayBe t cs → bs ≡ cs
 same_bytes Unknown bs cs told b c = absurd (told refl)
 same_bytes Lacking bs cs told b c = absurd b
 same_bytes (Holding known) bs cs told b c = sym b ∙ c

@@ -9,5 +9,7 @@ pub mod Again
 pub mod Seen
 pub mod Means
 pub mod Complete
+-- what is known of a call over real files and streams
+pub mod System
 pub mod Sources
 pub mod due

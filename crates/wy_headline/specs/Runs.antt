@@ -2,18 +2,19 @@
 use Rattle.std.specs.Prelude.{◌≡◌, ◌⊎◌, ◌++◌, ◌≤◌, ◌+◌, ◌*◌, ℕ, List, Bool, Option, is_some}
 use Rattle.wy_top.specs.wy_top_answers.Showing.{Sinks}
 use Rattle.wy_core.specs.CoreTree.{Core, Routine}
+use Rattle.wy_top.specs.wy_code_spec.compiled.Programs.{code_of}
 use Rattle.wy_top.specs.wy_eval_exprs.Settings.{here}
 use Rattle.wy_port.specs.Count.{Rose}
 use Rattle.wy_port.specs.Taken.{TookFront, with_taken}
 use Rattle.wy_top.specs.wy_top_answers.report.Lines.{steps_spent}
-use Rattle.wy_top.specs.wy_mach_run.Running.{Leaves, written}
+use Rattle.wy_top.specs.wy_mach_run.Running.{Counts, Leaves, written}
 use Rattle.wy_sound.specs.wy_sem.Evaluation.{evaluate}
 use Rattle.wy_sound.specs.wy_sem.Meter.{Meter, Done}
 use Rattle.wy_sound.specs.wy_sem.Operations.{or_null}
 use Rattle.wy_top.specs.wy_gen_laws.programs.Programs.{NoFault, PrintsThat}
 use Rattle.wy_top.specs.wy_mach_run.sound.Results.{Fulfils}
 use Rattle.wy_top.specs.wy_mach_run.sound.Runs.{Gives, GoesOn}
-use Rattle.wy_top.specs.Runs.{TookOf, done_text}
+use Rattle.wy_top.specs.Runs.{done_text}
 use Rattle.wy_value.specs.Datum.{Datum}
 
 -- a function or method of a program, by its number, and the values from which it runs
@@ -54,8 +55,12 @@ pub record TookOfRun (e : Entry) (before after : Option (List ℕ)) : Type 0 whe
   pub may : MayWrite e text
   pub took : TookFront before after text
 
+-- The machine's run of it, within so many steps, counted so many copies and so many nodes: each of its turns shows the next state of the step on values, and below the cap it is a step on shared nodes, by which copies are counted.
+abbrev pub IsCounted : Entry → ℕ → ℕ → ℕ → Type 0
+IsCounted e steps copies nodes = Counts (code_of e.core) e.number e.values steps copies nodes
+
 -- The program is done: out took its output and the text of its result. These lines come first on err, and then, where it is asked for, the line for copies.
-pub record ShowsResult (e : Entry) (lines : List ℕ) (stats : Bool) (k : Sinks) : Type 0 where
+pub record ShowsResult (e : Entry) (lines : List ℕ) (stats : Bool) (steps : ℕ) (k : Sinks) : Type 0 where
   pub value : Datum
   pub output : List ℕ
   pub done : IsDone e value output
@@ -63,6 +68,7 @@ pub record ShowsResult (e : Entry) (lines : List ℕ) (stats : Bool) (k : Sinks)
   pub copies : ℕ
   pub nodes : ℕ
   pub left : Leaves copies nodes value
+  pub counted : IsCounted e steps copies nodes
   pub err : k.err_after ≡ with_taken k.err_before (done_text lines stats copies nodes)
 
 -- it isn't done at any number of ticks for which there were steps enough: out took what was printed
@@ -72,11 +78,18 @@ pub record ShowsSpent (e : Entry) (lines : List ℕ) (steps : ℕ) (k : Sinks) :
   pub out : k.out_after ≡ with_taken k.out_before output
   pub err : k.err_after ≡ with_taken k.err_before (lines ++ steps_spent)
 
--- a sink counted a fault: out took a front of what the program may write, and err one of its lines
-pub record ShowsFailed (e : Entry) (lines : List ℕ) (k : Sinks) : Type 0 where
+-- what err took where a sink failed: a front of the lines, and nothing behind them; or a front of the lines and of what stands behind them where the program is done, or isn't done within the steps
+pub data TookErr (e : Entry) (lines : List ℕ) (stats : Bool) (steps : ℕ) (k : Sinks) : Type 0 where
+  of_lines : TookFront k.err_before k.err_after lines → TookErr e lines stats steps k
+  of_result : (v : Datum) (output : List ℕ) → IsDone e v output → (copies nodes : ℕ) → IsCounted e steps copies nodes
+      → TookFront k.err_before k.err_after (done_text lines stats copies nodes) → TookErr e lines stats steps k
+  of_spent : (output : List ℕ) → GoesOn here e.core e.number e.values steps output → TookFront k.err_before k.err_after (lines ++ steps_spent) → TookErr e lines stats steps k
+
+-- a sink counted a fault: out took a front of what the program may write, and err one of its text
+pub record ShowsFailed (e : Entry) (lines : List ℕ) (stats : Bool) (steps : ℕ) (k : Sinks) : Type 0 where
   pub rose : Rose k.out_faults_before k.out_faults_after ⊎ Rose k.err_faults_before k.err_faults_after
   pub out : TookOfRun e k.out_before k.out_after
-  pub err : TookOf lines k.err_before k.err_after
+  pub err : TookErr e lines stats steps k
 
 -- memory ran out: out took a front of what the program may write
 pub record ShowsCutOff (e : Entry) (lines : List ℕ) (k : Sinks) : Type 0 where

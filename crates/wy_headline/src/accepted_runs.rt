@@ -1,5 +1,5 @@
 //! What is known of accepted programs and of their code.
-ghost use Rattle.wy_headline.specs.Sources.{AcceptedSourcesRunRightly, ShownProgramsRunRightly, SourcesAreShown};
+ghost use Rattle.wy_headline.specs.Sources.{AcceptedSourcesRunRightly, ShownProgramsRunRightly, SourcesAreShown, SourcesKeepNothingDead};
 
 /// The typed and assigned program of a source, of which every condition is true, is such as the laws of soundness and
 /// of code ask for.
@@ -20,4 +20,10 @@ pub fn shown_programs_run_rightly()
 /// So does each source with true conditions.
 pub fn accepted_sources_run_rightly()
     ensures rightly { AcceptedSourcesRunRightly }
+{}
+
+/// Nothing dead is kept in the code of a source, accepted or not: in each run of it, on whatever arguments, wherever the
+/// next instruction of a frame is no `Clear`, each register that holds a list or a record is live at the frame's place.
+pub fn sources_keep_nothing_dead()
+    ensures keep { SourcesKeepNothingDead }
 {}

@@ -20,6 +20,7 @@ mod law;
 
 pub use accepted_runs::{
     accepted_sources_run_rightly, shown_programs_run_rightly, sources_are_shown,
+    sources_keep_nothing_dead,
 };
 pub use commands::run_words;
 pub use law::{

@@ -1,5 +1,5 @@
 -- What turns do on shared nodes.
-use Rattle.std.proofs.Common.{◌≡◌, ◌≤◌, ℕ, suc, ◌+◌, ◌-◌, List, [], ◌∷◌, ◌++◌, length, set, get_or, Some, refl, sym, ◌∙◌, ap, subst}
+use Rattle.std.proofs.Common.{◌≡◌, ◌≤◌, ℕ, suc, ◌+◌, ◌-◌, List, [], ◌∷◌, ◌++◌, length, set, get_or, Option, Some, refl, sym, ◌∙◌, ap, subst}
 use Rattle.std.specs.Prelude.{Result, Ok, Err, OnOk, IfOk, vec_capacity, slice_get}
 use Rattle.wy_heap.specs.declared.part.Part.{Part}
 use Rattle.wy_heap.specs.declared.part.Part.TheVariants.{Null}
@@ -14,9 +14,10 @@ use Rattle.wy_mach.specs.declared.frames.Caller.{Caller}
 use Rattle.wy_mach.specs.declared.machine.Machine.{Machine}
 use Rattle.wy_mach.specs.declared.machine.Turn.{Turn}
 use Rattle.wy_mach.specs.declared.machine.Turn.TheVariants as turn
-use Rattle.wy_mach.specs.Running.{Enters, Resumes, IsEnd, IsPlain}
+use Rattle.wy_code_spec.specs.step.Step as step
+use Rattle.wy_mach.specs.Running.{Enters, Resumes, IsEnd, IsPlain, Reaches, Steps, next_in}
 use Rattle.wy_mach.specs.SharedSteps.{EndsIn}
-use Rattle.wy_mach.specs.SharedTurns.{SharesPlain, SharesCall, SharesReturn, SharesBy, EndsSo, EndsBy, IsNoEnd, ReturnsLast, TurnsShared, Follows, FollowsAlong, EndsShared, WantsIn, WantsBy, state_of}
+use Rattle.wy_mach.specs.SharedTurns.{SharesPlain, SharesCall, SharesReturn, SharesBy, EndsSo, EndsBy, IsNoEnd, ReturnsLast, TurnsShared, Follows, FollowsAlong, ShowsAt, ShowsNext, EndsShared, WantsIn, WantsBy, state_of}
 
 -- ---- instructions
 
@@ -165,8 +166,17 @@ by_return code old (instr.PrintInt a) copies nodes P ends goes = absurd ends
 
 -- ---- runs
 
-pub along_more : (code : Code) (i n : ℕ) (first k last : Machine) → n ≡ suc i → FollowsAlong code i first k → Follows code k last → FollowsAlong code n first last
-along_more code i n first k last is along step = subst (λ (m : ℕ). FollowsAlong code m first last) (sym is) (k, along, step)
+-- a turn that went shows the next state
+pub shows_next : (code : Code) (old new : Machine) (before after : Option (List ℕ)) → Steps (next_in code) old new before after → ShowsNext code old new
+shows_next code old new before after steps fr callers output shows = by (step.step code (step.Runs fr callers output)) (steps fr callers output shows)
+  where
+    by : (st : step.State) → Reaches new before after output st → ShowsAt new st
+    by (step.Runs f cs out) reaches = reaches.0
+    by (step.Ended v out) reaches = reaches
+    by step.Stuck reaches = tt
+
+pub along_more : (code : Code) (i n : ℕ) (first k last : Machine) → n ≡ suc i → FollowsAlong code i first k → Follows code k last → ShowsNext code k last → FollowsAlong code n first last
+along_more code i n first k last is along follows shows = subst (λ (m : ℕ). FollowsAlong code m first last) (sym is) (k, along, follows, shows)
 
 pub ends_shared : (code : Code) (first last : Machine) (made steps copies nodes : ℕ) → made + 1 ≤ steps → FollowsAlong code made first last → EndsIn code (state_of last) nodes → copies ≡ last.heap.copies → EndsShared code first steps copies nodes
 ends_shared code first last made steps copies nodes within along ends are = record { made = made; within = within; last = last; along = along; ends = ends; copies_are = are }

@@ -16,6 +16,7 @@ use Rattle.wy_code.specs.declared.instructions.Instr.{Instr}
 use Rattle.wy_code.specs.declared.instructions.Instr.TheVariants as instr
 use Rattle.wy_code.specs.declared.routines.Routine.{Routine}
 use Rattle.wy_code.specs.declared.routines.Code.{Code}
+use Rattle.wy_code_spec.specs.step.Step as step
 use Rattle.wy_sem.specs.Expressions.{Store, slot}
 use Rattle.wy_mach.specs.Showing.{Shows, scalar_kind}
 use Rattle.wy_mach.specs.Operands.{Reads, truth_in}
@@ -28,7 +29,7 @@ use Rattle.wy_mach.specs.declared.machine.Turn.{Turn}
 use Rattle.wy_mach.specs.declared.machine.Turn.TheVariants as turn
 use Rattle.wy_mach.specs.declared.runs.RunEnd.{RunEnd}
 use Rattle.wy_mach.specs.declared.runs.RunEnd.TheVariants as run_end
-use Rattle.wy_mach.specs.States.{IsMachine, callers_of}
+use Rattle.wy_mach.specs.States.{IsMachine, ShowsState, callers_of}
 use Rattle.wy_mach.specs.Running.{Starts}
 use Rattle.wy_mach.specs.SharedSteps.{Waiting, Shared, IsFirst, ShareStep, ShareSteps, HasRoomNext, EndsIn, instr_next}
 
@@ -221,10 +222,20 @@ TurnsShared code old new turn.Stuck = ⊤
 
 -- ---- runs
 
--- so many turns lead from the first machine to the last
+-- the machine shows a state of the step on values, which isn't the last one of its run; of what has no step nothing is said
+abbrev pub ShowsAt : Machine → step.State → Type 0
+ShowsAt k (step.Runs fr callers output) = ShowsState k fr callers
+ShowsAt k (step.Ended v output) = ⊥
+ShowsAt k step.Stuck = ⊤
+
+-- whatever state the one machine shows, the other shows the next one of the step on values
+abbrev pub ShowsNext : Code → Machine → Machine → Type 0
+ShowsNext code old new = (fr : step.Frame) (callers : List step.Caller) (output : List ℕ) → ShowsState old fr callers → ShowsAt new (step.step code (step.Runs fr callers output))
+
+-- so many turns lead from the first machine to the last, each of them from what one machine shows to what the next one does
 abbrev pub FollowsAlong : Code → ℕ → Machine → Machine → Type 0
 FollowsAlong code zero first last = last ≡ first
-FollowsAlong code (suc n) first last = (k : Machine) × FollowsAlong code n first k × Follows code k last
+FollowsAlong code (suc n) first last = (k : Machine) × FollowsAlong code n first k × Follows code k last × ShowsNext code k last
 
 -- turns lead to a machine whose next instruction ends the run: so many copies were counted before it, and the result leads to so many nodes
 pub record EndsShared (code : Code) (first : Machine) (steps copies nodes : ℕ) : Type 0 where

@@ -10,6 +10,7 @@ pub mod ExclusionLemmas
 pub mod StartLemmas
 -- which starts the machine takes
 pub mod CanRunLemmas
--- what is written at the end of a run
+-- what is written and counted at the end of a run
 mod WritingLemmas
+mod CountLemmas
 pub mod sound_lemmas

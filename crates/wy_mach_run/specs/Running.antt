@@ -9,11 +9,15 @@ use Rattle.wy_value.specs.Values.{AreValues}
 use Rattle.wy_heap.specs.declared.heap.Heap.{Heap}
 use Rattle.wy_port.specs.Count.{Rose}
 use Rattle.wy_port.specs.Taken.{TookFront, with_taken}
+use Rattle.wy_code.specs.declared.routines.Code.{Code}
 use Rattle.wy_code.specs.declared.routines.Routine.{Routine}
 use Rattle.wy_gen_laws.specs.wy_code_spec.step.Step as step
 use Rattle.wy_gen_laws.specs.wy_code_spec.step.Step.{State, Ended}
 use Rattle.wy_mach.specs.States.{HasInts}
 use Rattle.wy_mach.specs.Running.{LacksNone, LeavesResult, Spends, state_behind}
+use Rattle.wy_mach.specs.SharedTurns.{RanShared}
+use Rattle.wy_mach.specs.declared.runs.RunEnd.{RunEnd as MachineEnd}
+use Rattle.wy_mach.specs.declared.runs.RunEnd.TheVariants as run_end
 use Rattle.wy_mach_run.specs.declared.parts.Start.{Start}
 use Rattle.wy_mach_run.specs.declared.end.RunEnd.{RunEnd}
 use Rattle.wy_mach_run.specs.declared.end.RunEnd.TheVariants.{Done, Spent, OutFault}
@@ -70,6 +74,30 @@ EndsSo wanted st before after failed fails OutFault = WritesFront wanted before 
 -- so ends a run of what a start has, for so many steps
 abbrev pub RunsTo : Start → ℕ → Option (List ℕ) → Option (List ℕ) → ℕ → ℕ → RunEnd → Type 0
 RunsTo s steps before after failed fails end = EndsSo s.has_result (state_of s steps) before after failed fails end
+
+-- ---- what is counted
+
+-- the most holders that a node has: at one more it is copied
+abbrev pub most_holders : ℕ
+most_holders = 4294967295
+
+-- the machine's run of this routine on arguments is done within so many steps, and counted so many copies and so many nodes
+abbrev pub Counts : Code → ℕ → List Datum → ℕ → ℕ → ℕ → Type 0
+Counts code entry args steps copies nodes = RanShared code entry args steps most_holders (run_end.Done None copies nodes)
+
+-- the counts of a run that is done are those of the machine's run of what a start has
+abbrev pub CountsSo : Start → ℕ → RunEnd → Type 0
+CountsSo s steps (Done copies nodes) = Counts s.code s.entry (map seen s.args) steps copies nodes
+CountsSo s steps Spent = ⊤
+CountsSo s steps OutFault = ⊤
+
+-- a run is done only where the machine's is, with the same counts
+abbrev pub SameCounts : MachineEnd → RunEnd → Type 0
+SameCounts end Spent = ⊤
+SameCounts end OutFault = ⊤
+SameCounts (run_end.Done text copies nodes) (Done c n) = (c ≡ copies) × (n ≡ nodes)
+SameCounts run_end.Spent (Done c n) = ⊥
+SameCounts run_end.OutFault (Done c n) = ⊥
 
 -- ---- the end of what is written
 

@@ -3,7 +3,7 @@ ghost use Rattle.std.specs.Prelude.{◌≤◌, ◌++◌, ◌∷◌, [], ℕ, Boo
 ghost use Rattle.wy_mach.specs.Running.{Ran};
 ghost use Rattle.wy_port.specs.Count.{Rose};
 ghost use Rattle.wy_port.specs.Taken.{TookFront, with_taken};
-ghost use Rattle.wy_mach_run.specs.Running.{CanRun, Closes, EndsSo, RunsTo, WritesFront, state_of};
+ghost use Rattle.wy_mach_run.specs.Running.{CanRun, Closes, CountsSo, EndsSo, RunsTo, SameCounts, WritesFront, state_of};
 ghost use Rattle.wy_gen_laws.specs.wy_code_spec.step.Step.{State};
 
 use crate::end::RunEnd;
@@ -17,8 +17,8 @@ use wy_port::{Failed, Sink, write_whole};
 const CAP: u32 = 4_294_967_295;
 
 /// Runs what a start has, for at most so many steps, of which it lacks none. `out` takes what the program prints as it is
-/// printed, and then, where the entry gives a result, its text and a line end. All places of the run are released before
-/// the answer.
+/// printed, and then, where the entry gives a result, its text and a line end. What it counts of copies and nodes is what
+/// the machine counted in this run. All places of the run are released before the answer.
 pub fn run_start<O: Sink>(
     alloc: Global,
     start: &Start,
@@ -27,6 +27,7 @@ pub fn run_start<O: Sink>(
 ) -> Result<RunEnd, NoMemory>
     requires { CanRun start.now }
     ensures runs { IfOk result (RunsTo start.now steps (O.taken out.old) (O.taken out.new) (O.faults out.old) (O.faults out.new)) }
+    ensures counts { IfOk result (CountsSo start.now steps) }
     ensures no_memory { OnErr result (WritesFront start.now.has_result (O.taken out.old) (O.taken out.new) (state_of start.now steps)) }
     ensures count { O.faults out.old ≤ O.faults out.new }
 {
@@ -49,6 +50,7 @@ pub fn run_start<O: Sink>(
 // Writes the text of the result, where there is one, and says how the run ended.
 fn ended<O: Sink>(end: MachineEnd, out: &mut O) -> RunEnd
     ensures ended { (wanted : Bool) → (st : State) → (before : Option (List ℕ)) → (failed : ℕ) → failed ≤ O.faults out.old → Ran st wanted before (O.taken out.old) failed (O.faults out.old) end → EndsSo wanted st before (O.taken out.new) failed (O.faults out.new) result }
+    ensures counts { SameCounts end result }
     ensures count { O.faults out.old ≤ O.faults out.new }
 {
     match end {

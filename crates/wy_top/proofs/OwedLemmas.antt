@@ -7,6 +7,8 @@ use Rattle.wy_core.specs.Types.{Ty}
 use Rattle.wy_top_probe.specs.wy_top_source.texts.Refusals as refusals
 use Rattle.wy_top_probe.specs.wy_top_source.texts.Sources as sources
 use Rattle.wy_top_probe.specs.wy_top_source.declared.refusal.Refusal.{Refusal}
+use Rattle.wy_top_probe.proofs.wy_top_source_proofs.ApartLemmas.{not_refused, one_flow}
+use Rattle.wy_top_probe.proofs.wy_top_source_proofs.OneLemmas.{one_core}
 use Rattle.wy_vc.specs.Listed as vc
 use Rattle.wy_vc.specs.declared.fault.VcFault.{VcFault}
 use Rattle.wy_vc.specs.declared.fault.VcFault.TheVariants.{TooManyConds, TooManyTerms, NoMemory}
@@ -96,6 +98,12 @@ owes_only bytes core flow only = λ c f h. only c f h.program
 pub owes_exact : (bytes : List ℕ) (core : Core ℕ) (flow : List Ty) → IsOnly bytes core flow → ((g : Refusal) → sources.IsDue bytes g → ⊥) → limit_by core flow ≡ Within → (g : OwedFault) → IsDue bytes g → ⊥
 owes_exact bytes core flow only exact within (Source g) owed = exact g owed
 owes_exact bytes core flow only exact within (Limit g) owed = not_within g (limit_by core flow) (over_here bytes core flow g only owed) within
+
+-- and none for which it is refused
+pub owes_unrefused : (bytes : List ℕ) (core : Core ℕ) (flow : List Ty) → Owes bytes core flow → (f : OwedFault) → is_no_memory f ≡ false → IsRefused bytes f → ⊥
+owes_unrefused bytes core flow h (Source f) known r = not_refused bytes core flow f h.program known r
+owes_unrefused bytes core flow h (Limit f) known r =
+    not_within f (limit_by core flow) (over_here bytes core flow f (λ c g p. (one_core bytes core c flow g h.program p, one_flow bytes core c flow g h.program p)) r) h.within
 
 -- ---- there is a list
 

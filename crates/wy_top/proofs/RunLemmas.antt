@@ -1,7 +1,7 @@
 -- What a run that started shows.
-use Rattle.std.proofs.Common.{◌≡◌, ◌≤◌, ◌⊎◌, ◌∙◌, ◌++◌, ◌+◌, ℕ, List, [], length, take, Bool, Option, Some, None, inl, inr, arith, refl, sym, ap}
+use Rattle.std.proofs.Common.{◌≡◌, ◌≤◌, ◌⊎◌, ◌∙◌, ◌++◌, ◌+◌, ℕ, List, length, map, take, Bool, Option, Some, None, inl, inr, arith, refl, sym, ap}
 use Rattle.std.proofs.Math.Seq.{take-append-add}
-use Rattle.std.proofs.lemmas.List.{append-nil, append_assoc, length-append}
+use Rattle.std.proofs.lemmas.List.{append_assoc, length-append}
 use Rattle.wy_top_probe.specs.wy_top_answers.Showing.{sinks}
 use Rattle.wy_top_probe.proofs.wy_top_answers_proofs.LoadLemmas.{rose_within}
 use Rattle.wy_top_probe.proofs.wy_top_answers_proofs.ShowLemmas.{took_nothing, took_whole}
@@ -9,12 +9,14 @@ use Rattle.wy_top_probe.specs.wy_mach_run.wy_mach.Running.{Spends}
 use Rattle.wy_port.specs.Count.{Rose}
 use Rattle.wy_port.specs.Taken.{TookFront, with_taken}
 use Rattle.wy_top_probe.specs.wy_top_answers.report.Lines.{steps_spent}
-use Rattle.wy_top_probe.specs.wy_mach_run.Running.{EndsSo, Finished, WritesFront, written}
+use Rattle.wy_top_probe.specs.wy_mach_run.Running.{Counts, CountsSo, EndsSo, Finished, WritesFront, written}
 use Rattle.wy_top_probe.specs.wy_mach_run.declared.end.RunEnd.{RunEnd}
 use Rattle.wy_top_probe.specs.wy_mach_run.declared.end.RunEnd.TheVariants.{Done, Spent, OutFault}
 use Rattle.wy_gen_sources.specs.wy_code_spec.step.Step as step
 use Rattle.wy_gen_sources.specs.wy_code_spec.step.Step.{State, Ended}
-use Rattle.wy_top.specs.Runs.{Reports, whole, front, EndsRun, Shows, finished, spends, sink_failed, no_memory, stats_text}
+use Rattle.wy_top_probe.specs.wy_mach_run.declared.parts.Start.{Start}
+use Rattle.wy_value.specs.Seen.{seen}
+use Rattle.wy_top.specs.Runs.{Reports, whole, front, EndsRun, Shows, finished, of_done, of_lines, of_spent, spends, sink_failed, no_memory, stats_text}
 
 -- ---- texts one behind the other
 
@@ -70,30 +72,33 @@ pub record Around : Type 0 where
   pub err_g : ℕ
   pub err_h : ℕ
 
-abbrev pub ShowsAround : Around → ℕ → Type 0
-ShowsAround a status = Shows a.lines a.wanted a.asked a.st status (sinks a.out_before a.out_after a.out_f a.out_g a.err_before a.err_after a.err_f a.err_h)
+-- what is left of a run of what a start has, for so many steps
+module _ (a : Around) (s : Start) (steps : ℕ) where
+  abbrev Told : ℕ → ℕ → Type 0
+  Told copies nodes = Counts s.code s.entry (map seen s.args) steps copies nodes
 
--- a front of the last text on the sink of errors
-broken : (a : Around) (status : ℕ) (text : List ℕ) → a.err_f ≤ a.err_g → a.err_g ≤ a.err_h → a.err_between ≡ with_taken a.err_before a.lines → status ≡ 5 → Rose a.err_g a.err_h → TookFront a.err_between a.err_after text
-    → WritesFront a.wanted a.out_before a.out_after a.st → ShowsAround a status
-broken a status text fg gh e five rose took writes =
-    sink_failed five (inr (rose_within a.err_f a.err_g a.err_h a.err_h fg gh (omega arith) rose)) writes (record { more = text; took = front_behind a.err_before a.err_between a.err_after a.lines text e took })
+  abbrev pub ShowsAround : ℕ → Type 0
+  ShowsAround status = Shows a.lines a.wanted a.asked Told a.st status (sinks a.out_before a.out_after a.out_f a.out_g a.err_before a.err_after a.err_f a.err_h)
 
-by_done : (a : Around) (status copies nodes : ℕ) → a.err_f ≤ a.err_g → a.err_g ≤ a.err_h → a.err_between ≡ with_taken a.err_before a.lines → Finished a.wanted copies nodes a.out_before a.out_after a.st
-    → Reports 0 (stats_text a.asked copies nodes) status a.err_between a.err_after a.err_g a.err_h ⊎ ((status ≡ 9) × (a.err_after ≡ a.err_between)) → ShowsAround a status
-by_done a status copies nodes fg gh e h (inl (whole zero took)) = finished copies nodes zero h (whole_behind a.err_before a.err_between a.err_after a.lines (stats_text a.asked copies nodes) e took)
-by_done a status copies nodes fg gh e h (inl (front five rose took)) =
-    broken a status (stats_text a.asked copies nodes) fg gh e five rose took (writes_done a.wanted copies nodes a.out_before a.out_after a.st h)
-by_done a status copies nodes fg gh e h (inr none) = no_memory none.0 (writes_done a.wanted copies nodes a.out_before a.out_after a.st h) (none.1 ∙ e)
+  module _ (status : ℕ) (fg : a.err_f ≤ a.err_g) (gh : a.err_g ≤ a.err_h) (between : a.err_between ≡ with_taken a.err_before a.lines) where
+    rose : Rose a.err_g a.err_h → Rose a.err_f a.err_h
+    rose r = rose_within a.err_f a.err_g a.err_h a.err_h fg gh (omega arith) r
 
-by_spent : (a : Around) (status : ℕ) → a.err_f ≤ a.err_g → a.err_g ≤ a.err_h → a.err_between ≡ with_taken a.err_before a.lines → Spends a.out_before a.out_after a.st
-    → Reports 8 steps_spent status a.err_between a.err_after a.err_g a.err_h → ShowsAround a status
-by_spent a status fg gh e h (whole eight took) = spends eight h (whole_behind a.err_before a.err_between a.err_after a.lines steps_spent e took)
-by_spent a status fg gh e h (front five rose took) = broken a status steps_spent fg gh e five rose took (writes_spent a.wanted a.out_before a.out_after a.st h)
+    behind : (text : List ℕ) → TookFront a.err_between a.err_after text → TookFront a.err_before a.err_after (a.lines ++ text)
+    behind text took = front_behind a.err_before a.err_between a.err_after a.lines text between took
 
-pub ran_ends : (a : Around) (end : RunEnd) (status : ℕ) → a.err_f ≤ a.err_g → a.err_g ≤ a.err_h → a.err_between ≡ with_taken a.err_before a.lines
-    → EndsSo a.wanted a.st a.out_before a.out_after a.out_f a.out_g end → EndsRun a.asked end status a.err_between a.err_after a.err_g a.err_h → ShowsAround a status
-ran_ends a (Done copies nodes) status fg gh e ran ends = by_done a status copies nodes fg gh e ran ends
-ran_ends a Spent status fg gh e ran ends = by_spent a status fg gh e ran ends
-ran_ends a OutFault status fg gh e ran ends =
-    sink_failed ends.0 (inl ran.1) ran.0 (record { more = []; took = took_whole a.err_before a.err_after (a.lines ++ []) (ends.1 ∙ (e ∙ ap (with_taken a.err_before) (sym (append-nil a.lines)))) })
+    by_done : (copies nodes : ℕ) → Finished a.wanted copies nodes a.out_before a.out_after a.st → Told copies nodes
+        → Reports 0 (stats_text a.asked copies nodes) status a.err_between a.err_after a.err_g a.err_h ⊎ ((status ≡ 9) × (a.err_after ≡ a.err_between)) → ShowsAround status
+    by_done copies nodes h counts (inl (whole zero took)) = finished copies nodes zero h counts (whole_behind a.err_before a.err_between a.err_after a.lines (stats_text a.asked copies nodes) between took)
+    by_done copies nodes h counts (inl (front five r took)) =
+        sink_failed five (inr (rose r)) (writes_done a.wanted copies nodes a.out_before a.out_after a.st h) (of_done copies nodes h counts (behind (stats_text a.asked copies nodes) took))
+    by_done copies nodes h counts (inr none) = no_memory none.0 (writes_done a.wanted copies nodes a.out_before a.out_after a.st h) (none.1 ∙ between)
+
+    by_spent : Spends a.out_before a.out_after a.st → Reports 8 steps_spent status a.err_between a.err_after a.err_g a.err_h → ShowsAround status
+    by_spent h (whole eight took) = spends eight h (whole_behind a.err_before a.err_between a.err_after a.lines steps_spent between took)
+    by_spent h (front five r took) = sink_failed five (inr (rose r)) (writes_spent a.wanted a.out_before a.out_after a.st h) (of_spent h (behind steps_spent took))
+
+    pub ran_ends : (end : RunEnd) → EndsSo a.wanted a.st a.out_before a.out_after a.out_f a.out_g end → CountsSo s steps end → EndsRun a.asked end status a.err_between a.err_after a.err_g a.err_h → ShowsAround status
+    ran_ends (Done copies nodes) ran counts ends = by_done copies nodes ran counts ends
+    ran_ends Spent ran counts ends = by_spent ran ends
+    ran_ends OutFault ran counts ends = sink_failed ends.0 (inl ran.1) ran.0 (of_lines (took_whole a.err_before a.err_after a.lines (ends.1 ∙ between)))

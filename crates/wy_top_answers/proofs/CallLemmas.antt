@@ -1,7 +1,7 @@
 -- A call that answers exactly, as a step.
-use Rattle.std.proofs.Common.{◌≡◌, ◌⊎◌, ◌∙◌, ℕ, List, Bool, true, false, IsTrue, Ok, Err, inl, inr, refl, sym, ap, subst}
-use Rattle.wy_top_answers.specs.Answers.{refused, no_memory, IsRefusal}
-use Rattle.wy_top_answers.specs.Calls.{Faults, IsFaulted, called, AnswersFault}
+use Rattle.std.proofs.Common.{◌≡◌, ◌∙◌, Bool, true, false, IsTrue, Ok, Err, refl, sym, ap}
+use Rattle.wy_top_answers.specs.Answers.{refused}
+use Rattle.wy_top_answers.specs.Calls.{Faults, called, AnswersFault}
 use Rattle.wy_top_answers.specs.Steps.{Setting, Came, Sense, stated, due, Gives}
 use Rattle.wy_top_answers.specs.declared.answer.Answer.{Answer}
 use Rattle.wy_top_answers.proofs.StepLemmas.{value_gives, memory_gives, refusal_gives}

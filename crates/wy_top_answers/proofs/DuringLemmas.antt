@@ -16,11 +16,11 @@ during_itself told f g m n faults misses = record { same = λ name. refl; faults
 
 -- the first of two calls
 pub during_first : (s : Setting) (told : List ℕ → Told) (f g h m n o : List ℕ → ℕ) → IsDuring s told f h m o → Rises f g → Rises g h → Rises m n → Rises n o → IsDuring s told f g m n
-during_first s told f g h m n o d fg gh mn no =
-    record { same = d.same; faults_from = d.faults_from; faults_rise = fg; faults_to = goes_on g h s.faults_after gh d.faults_to; misses_from = d.misses_from; misses_rise = mn; misses_to = goes_on n o s.misses_after no d.misses_to }
+during_first s told f g h m n o d fg gh mn later =
+    record { same = d.same; faults_from = d.faults_from; faults_rise = fg; faults_to = goes_on g h s.faults_after gh d.faults_to; misses_from = d.misses_from; misses_rise = mn; misses_to = goes_on n o s.misses_after later d.misses_to }
 
 -- the second of two calls, of which the first changed no file
 pub during_second : (s : Setting) (told between : List ℕ → Told) (f g h m n o : List ℕ → ℕ) → IsDuring s told f h m o → ((name : List ℕ) → between name ≡ told name) → Rises f g → Rises g h → Rises m n → Rises n o
     → IsDuring s between g h n o
-during_second s told between f g h m n o d kept fg gh mn no =
-    record { same = λ name. kept name ∙ d.same name; faults_from = goes_on s.faults_before f g d.faults_from fg; faults_rise = gh; faults_to = d.faults_to; misses_from = goes_on s.misses_before m n d.misses_from mn; misses_rise = no; misses_to = d.misses_to }
+during_second s told between f g h m n o d kept fg gh mn later =
+    record { same = λ name. kept name ∙ d.same name; faults_from = goes_on s.faults_before f g d.faults_from fg; faults_rise = gh; faults_to = d.faults_to; misses_from = goes_on s.misses_before m n d.misses_from mn; misses_rise = later; misses_to = d.misses_to }

@@ -53,7 +53,7 @@ one_file (Holding x) bytes others known m h = sym m ∙ h
 
 -- ---- a load that came to bytes
 
-fails_not : (s : Setting) (name : List ℕ) (limit : ℕ) (bytes : List ℕ) → s.told name ≢ Unknown → Loads s name limit bytes → (fault : LoadFault) → LoadFails s name limit fault → ⊥
+pub fails_not : (s : Setting) (name : List ℕ) (limit : ℕ) (bytes : List ℕ) → s.told name ≢ Unknown → Loads s name limit bytes → (fault : LoadFault) → LoadFails s name limit fault → ⊥
 fails_not s name limit bytes known there Absent h = missing_loads (s.told name) (s.misses_before name) (s.misses_after name) bytes known h there.told
 fails_not s name limit bytes known there TooLong h = long_loads (s.told name) limit (s.misses_before name) (s.misses_after name) bytes known h there.told there.within
 fails_not s name limit bytes known there Failed h = h

@@ -6,4 +6,6 @@ pub mod CoreLemmas
 pub mod ProgramLemmas
 -- one core
 pub mod OneLemmas
+-- and no refusal
+pub mod ApartLemmas
 pub mod texts_lemmas

@@ -1,5 +1,5 @@
 -- Which typed and assigned program the bytes of a source are, and for what they are refused.
-use Rattle.std.specs.Prelude.{◌≡◌, ℕ, List, map, ⊤}
+use Rattle.std.specs.Prelude.{◌≡◌, ℕ, List, false, map, ⊤}
 use Rattle.wy_assign.specs.Assigned as assign
 use Rattle.wy_ast.specs.SurfaceSeen.{seen_decl}
 use Rattle.wy_ast.specs.declared.declarations.Program.{Program}
@@ -10,8 +10,11 @@ use Rattle.wy_core.specs.declared.declarations.Core.{Core}
 use Rattle.wy_core.specs.formed.Bound.{Bound}
 use Rattle.wy_core.specs.formed.Calls.{Calls}
 use Rattle.wy_core.specs.formed.Recursion.{Recursion}
+use Rattle.wy_print_laws.specs.wy_parse_front.Faults as faults
 use Rattle.wy_print_laws.specs.wy_parse_front.Front as front
+use Rattle.wy_print_laws.specs.wy_parse_front.declared.fault.SourceFault.{SourceFault}
 use Rattle.wy_names.specs.Named as named
+use Rattle.wy_top_source.specs.Refusals.{is_no_memory}
 use Rattle.wy_top_source.specs.declared.refusal.Refusal.{Refusal}
 use Rattle.wy_top_source.specs.declared.refusal.Refusal.TheVariants.{Text, Name, Flow, Assign}
 use Rattle.wy_assign.specs.wy_flow_spec.typing.Outcomes.{Fails}
@@ -65,3 +68,10 @@ IsEarly (Assign fault) = ⊥
 -- the core of a program is the one that the bytes have
 abbrev pub HaveOneCore : Type 0
 HaveOneCore = (bytes : List ℕ) (core other : tree.Core ℕ) (flow own : List types.Ty) → IsProgram bytes core flow → IsProgram bytes other own → core ≡ other
+
+-- bytes that spell a program are refused for nothing, and so is a source that has a typed and assigned one
+abbrev pub SpelledIsNotRefused : Type 0
+SpelledIsNotRefused = (bytes : List ℕ) (p : Program) (f : SourceFault) → front.Spells bytes p → faults.is_no_memory f ≡ false → front.IsRefused bytes f → ⊥
+
+abbrev pub HaveNoRefusal : Type 0
+HaveNoRefusal = (bytes : List ℕ) (core : tree.Core ℕ) (flow : List types.Ty) (f : Refusal) → IsProgram bytes core flow → is_no_memory f ≡ false → IsRefused bytes f → ⊥

@@ -8,7 +8,7 @@ use Rattle.wy_cert.specs.File.{ReadsFile}
 use Rattle.wy_top_answers.specs.Answers.{refused, IsRefusal}
 use Rattle.wy_top_answers.specs.supplied.Certificates.{IsBadFile, certificates, certificates_read, fault_text, no_file, without, from_file}
 use Rattle.wy_top_answers.specs.Loading.{loaded, certificate_limit}
-use Rattle.wy_top_answers.specs.Steps.{Setting, Came, Sense, stated, due, EndsFree, EndsOutside, Follows, Gives, both, and_then}
+use Rattle.wy_top_answers.specs.Steps.{Setting, Came, stated, due, EndsFree, EndsOutside, Follows, Gives, both, and_then}
 use Rattle.wy_top_answers.specs.declared.answer.Answer.{Answer}
 use Rattle.wy_top_answers.proofs.StepLemmas.{value_gives, memory_gives, refusal_gives}
 

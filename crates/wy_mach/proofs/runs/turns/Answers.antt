@@ -1,14 +1,14 @@
 use Rattle.std.proofs.Common.{◌≡◌, ◌≤◌, ◌+◌, ◌-◌, suc, refl, sym, subst, ◌∙◌, arith, rules}
 use Rattle.wy_lemmas.proofs.Options.{on_any_err}
 use Rattle.wy_code_spec.specs.step.Step.{State, after}
-use Rattle.wy_mach.specs.Running.{Turned, PrintsFront, ShowsFirst, next_in}
+use Rattle.wy_mach.specs.Running.{Steps, Turned, PrintsFront, ShowsFirst, next_in}
 use Rattle.std.specs.Prelude.{IfOk, OnErr}
 use Rattle.wy_mach.specs.Pacing.{turn_of}
 use Rattle.wy_mach.specs.declared.machine.Pace.{Pace}
 use Rattle.wy_mach.proofs.TurnLemmas.{no_instr}
 use Rattle.wy_mach.proofs.RunLemmas.{follows_first, follows_on, run_done, run_fault, run_front, comes_next, run_spent, rose_later}
 use Rattle.wy_mach.specs.SharedTurns.{TurnsShared}
-use Rattle.wy_mach.proofs.SharedTurnLemmas.{along_more, ends_shared}
+use Rattle.wy_mach.proofs.SharedTurnLemmas.{along_more, ends_shared, shows_next}
 use Rattle.wy_mach.proofs.runs.turns.Goals as goal
 
 pub loop-i-init : goal.loop-i-init
@@ -31,11 +31,12 @@ loop-i-preserved-in-Went g c =
     let before = g.O.Sink.taken c.loop-i.out in
     let failed = g.O.Sink.faults c.loop-i.out in
     let less : steps - i ≡ suc (steps - (i + 1)) = omega (arith, c.loop-i-test.true) in
+    let went : Steps (next_in code) old new before before = subst (Turned (next_in code) old new before before failed failed) c.in-Went.is (c.in_ok-returned-in-Return.ensures.turned before failed) in
     record {
       is = c.returned.ensures.is;
-      follows = follows_on code c.args.machine.now old new first before before steps (steps - i) (steps - (i + 1)) less c.loop-i.invariant.follows
-          (subst (Turned (next_in code) old new before before failed failed) c.in-Went.is (c.in_ok-returned-in-Return.ensures.turned before failed));
-      along = along_more code i (i + 1) c.args.machine.now old new (omega arith) c.loop-i.invariant.along (subst (TurnsShared code old new) c.in-Went.is c.in_ok-returned-in-Return.ensures.shared);
+      follows = follows_on code c.args.machine.now old new first before before steps (steps - i) (steps - (i + 1)) less c.loop-i.invariant.follows went;
+      along = along_more code i (i + 1) c.args.machine.now old new (omega arith) c.loop-i.invariant.along (subst (TurnsShared code old new) c.in-Went.is c.in_ok-returned-in-Return.ensures.shared)
+          (shows_next code old new before before went);
       has_result = c.returned.ensures.has_result ∙ c.loop-i.invariant.has_result;
       faults = c.loop-i.invariant.faults;
     }
@@ -53,11 +54,12 @@ loop-i-preserved g c =
     let less : steps - i ≡ suc (steps - (i + 1)) = omega (arith, c.loop-i-test.true) in
     let now = g.O.Sink.taken c.turn.new.out in
     let fails = g.O.Sink.faults c.turn.new.out in
+    let went : Steps (next_in code) old new before now = subst (λ (p : Pace). IfOk (turn_of p) (Turned (next_in code) old new before now failed fails)) c.in-Went-turn.is c.turn.ensures.turned in
     record {
       is = c.turn.ensures.is;
-      follows = follows_on code c.args.machine.now old new first before now steps (steps - i) (steps - (i + 1)) less c.loop-i.invariant.follows
-          (subst (λ (p : Pace). IfOk (turn_of p) (Turned (next_in code) old new before now failed fails)) c.in-Went-turn.is c.turn.ensures.turned);
-      along = along_more code i (i + 1) c.args.machine.now old new (omega arith) c.loop-i.invariant.along (subst (λ (p : Pace). IfOk (turn_of p) (TurnsShared code old new)) c.in-Went-turn.is c.turn.ensures.shared);
+      follows = follows_on code c.args.machine.now old new first before now steps (steps - i) (steps - (i + 1)) less c.loop-i.invariant.follows went;
+      along = along_more code i (i + 1) c.args.machine.now old new (omega arith) c.loop-i.invariant.along (subst (λ (p : Pace). IfOk (turn_of p) (TurnsShared code old new)) c.in-Went-turn.is c.turn.ensures.shared)
+          (shows_next code old new before now went);
       has_result = c.turn.ensures.has_result ∙ c.loop-i.invariant.has_result;
       faults = omega (arith, c.turn.ensures.count, c.loop-i.invariant.faults);
     }

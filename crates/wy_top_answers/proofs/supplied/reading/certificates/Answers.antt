@@ -1,4 +1,4 @@
-use Rattle.std.proofs.Common.{◌≡◌, ◌≢◌, ℕ, List, [], Ok, Err, refl, rules, sym, subst}
+use Rattle.std.proofs.Common.{◌≡◌, ◌≢◌, [], Ok, Err, refl, rules, sym, subst}
 use Rattle.wy_cert.specs.Steps.{Certificates, certificates_of}
 use Rattle.wy_top_answers.specs.Loading.{loaded, certificate_limit}
 use Rattle.wy_top_answers.specs.Steps.{Gives, both, came}

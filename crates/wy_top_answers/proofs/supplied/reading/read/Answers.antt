@@ -1,6 +1,4 @@
-use Rattle.std.proofs.Common.{◌≡◌, ℕ, List, Ok, Err, subst}
-use Rattle.wy_cert.specs.File.{ReadsFile}
-use Rattle.wy_cert.specs.Only.{IsTheOne}
+use Rattle.std.proofs.Common.{ℕ, List, Ok, Err, subst}
 use Rattle.wy_cert.specs.Steps.{certificates_of}
 use Rattle.wy_top_answers.specs.Steps.{Gives, both}
 use Rattle.wy_vc_laws.proofs.shown_lemmas.ReadLemmas.{reads_sorted}
