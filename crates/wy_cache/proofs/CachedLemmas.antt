@@ -1,5 +1,5 @@
 -- What is written into a cache, certificate by certificate.
-use Rattle.std.proofs.Common.{◌≡◌, ℕ, zero, suc, ◌+◌, ◌-◌, ◌<◌, ◌≤◌, List, [], ◌∷◌, ◌++◌, Bool, true, false, codes, length, take, drop, get_or, map, Option, Some, None, refl, sym, ap, subst, ◌∙◌, arith}
+use Rattle.std.proofs.Common.{◌≡◌, ℕ, zero, suc, ◌+◌, ◌-◌, ◌<◌, ◌≤◌, List, [], ◌∷◌, ◌++◌, Bool, true, false, codes, length, take, drop, get_or, map, Option, Some, None, refl, sym, ap, subst, ◌∙◌, arith, append_assoc}
 use Rattle.std.specs.Fmt.{decimal}
 use Rattle.std.specs.Prelude.{slice_get}
 use Rattle.std.proofs.lemmas.List.{length-map, take_more, take-append-drop, take_all}
@@ -15,7 +15,7 @@ use Rattle.wy_cache_text.specs.declared.writer.Writer.{Writer}
 use Rattle.wy_cache_text.specs.Lines.{is_inside, NoLine, IsLineAt, AreInside, lines_text, AreLinesAt}
 use Rattle.wy_cache_text.specs.SoFar.{IsSoFar}
 use Rattle.wy_cache_text.specs.Written.{Row}
-use Rattle.wy_cache_text.proofs.LineLemmas.{grouped, not_inside}
+use Rattle.wy_cache_text.proofs.LineLemmas.{not_inside}
 use Rattle.wy_cache_text.proofs.WrittenLemmas.{put_behind}
 use Rattle.wy_cache.specs.Cached.{row_of, with_row, rows_of}
 use Rattle.wy_cache.specs.Standing.{Stands}
@@ -26,7 +26,7 @@ cond_inside : (n : ℕ) → IsPlace n → AllPass is_inside (codes "cond " ++ de
 cond_inside n h = (refl, (refl, (refl, (refl, (refl, place_inside n h)))))
 
 first_line : (n : ℕ) (steps : List Written) (text rest : List ℕ) → text ≡ certificate_text (n, steps) ++ rest → text ≡ (codes "cond " ++ decimal n) ++ 10 ∷ (texts line_text steps ++ rest)
-first_line n steps text rest is = is ∙ ap (λ (i : List ℕ). codes "cond " ++ i) (grouped (decimal n) (10 ∷ texts line_text steps) rest)
+first_line n steps text rest is = is ∙ ap (λ (i : List ℕ). codes "cond " ++ i) (append_assoc (decimal n) (10 ∷ texts line_text steps) rest)
 
 pub some_line : (n : ℕ) (steps : List Written) (text : List ℕ) → Stands n steps text → NoLine text → ⊥
 some_line n steps text h none = not_inside (codes "cond " ++ decimal n) (texts line_text steps ++ h.rest) (subst (AllPass is_inside) (first_line n steps text h.rest h.is) none)
@@ -43,7 +43,7 @@ steps_inside (s ∷ steps) h = (step_inside s h.0, steps_inside steps h.1)
 
 pub steps_lines : (steps : List Written) → texts line_text steps ≡ lines_text (map step_text steps)
 steps_lines [] = refl
-steps_lines (s ∷ steps) = grouped (step_text s) (codes "\n") (texts line_text steps) ∙ ap (λ (i : List ℕ). step_text s ++ 10 ∷ i) (steps_lines steps)
+steps_lines (s ∷ steps) = append_assoc (step_text s) (codes "\n") (texts line_text steps) ∙ ap (λ (i : List ℕ). step_text s ++ 10 ∷ i) (steps_lines steps)
 
 pub steps_stand : (steps : List Written) (text rest : List ℕ) (count : ℕ) → count ≡ length steps → AreWritable steps → text ≡ texts line_text steps ++ rest → AreLinesAt count text (texts line_text steps) rest
 steps_stand steps text rest count many writable is = record {
@@ -75,7 +75,7 @@ pub stands_at : (certs : Certificates) (i : ℕ) (e : ℕ × List Written) (text
 stands_at certs i e text lt at is =
     let next : suc i ≡ i + 1 = omega arith in
     let split : drop i certs ≡ e ∷ drop (i + 1) certs = drop_suc certs i e lt at ∙ ap (λ (j : ℕ). e ∷ drop j certs) next in
-    is ∙ ap (λ (cs : Certificates). texts certificate_text cs ++ codes "end\n") split ∙ grouped (certificate_text e) (texts certificate_text (drop (i + 1) certs)) (codes "end\n")
+    is ∙ ap (λ (cs : Certificates). texts certificate_text cs ++ codes "end\n") split ∙ append_assoc (certificate_text e) (texts certificate_text (drop (i + 1) certs)) (codes "end\n")
 
 -- the item at a place, seen through a function
 pub seen_at : {A B : Type 0} (f : A → B) (xs : List A) (i : ℕ) (x : A) → i < length xs → x ≡ get_or xs i x → f x ≡ get_or (map f xs) i (f x)

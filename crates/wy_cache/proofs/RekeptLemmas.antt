@@ -1,5 +1,6 @@
 -- A cache that is written is read again, and keeps what it has.
-use Rattle.std.proofs.Common.{◌≡◌, ◌∙◌, ◌⊎◌, inl, inr, ◌+◌, ◌-◌, ◌<◌, ℕ, zero, suc, List, [], ◌∷◌, ◌++◌, Bool, true, false, cond, codes, length, map, Option, Some, None, Ok, refl, sym, ap, subst, arith}
+use Rattle.std.proofs.Common.{◌≡◌, ◌∙◌, inl, inr, ◌+◌, ◌-◌, ◌<◌, ℕ, zero, suc, List, [], ◌∷◌, ◌++◌, Bool, true, false, cond, codes, length, map, Option, Some, refl, sym, ap, subst, arith, append_assoc}
+use Rattle.std.proofs.lemmas.Fmt.{decimal_digit}
 use Rattle.std.specs.Prelude.{◌||◌, bytes_eq, slice_get}
 use Rattle.std.proofs.lemmas.List.{length-append, length-map}
 use Rattle.wy_term_text.proofs.wy_lemmas_proofs.Lists.{append_mid, bytes_are, bytes_self}
@@ -8,26 +9,25 @@ use Rattle.wy_term_text.specs.wy_data.scan.Front.{AllPass}
 use Rattle.wy_term.specs.Condition.{Condition}
 use Rattle.wy_term.specs.Sorts.{formula_sort}
 use Rattle.wy_term.specs.Term.{Term}
-use Rattle.wy_cert.specs.File.{ReadsFile, is_inside}
-use Rattle.wy_cert.specs.Steps.{Certificates, Written, split}
+use Rattle.wy_cert.specs.File.{is_inside}
+use Rattle.wy_cert.specs.Numbers.{IsPlaceAt}
+use Rattle.wy_cert.specs.Steps.{Certificates, Written, children, split}
 use Rattle.wy_cert.specs.writing.Text.{line_text, step_text, texts}
 use Rattle.wy_check.proofs.wy_check_laws_proofs.reread_lemmas.FileLemmas.{files_are_read}
 use Rattle.wy_check.proofs.wy_check_laws_proofs.reread_lemmas.StepLemmas.{last_place, line_spells, step_inside}
 use Rattle.wy_check.specs.wy_check_laws.reread.Grammar.{AreLines as AreStepLines, AreTrees as AreTreesOf}
 use Rattle.wy_check.specs.wy_check_laws.reread.Writable.{AreTrees, AreWritable, IsWritableAt}
-use Rattle.wy_check.specs.wy_vc_laws.wy_check_spec.valid.Validity.{IsValid}
 use Rattle.wy_cache_text.proofs.FileLemmas.{read_once}
-use Rattle.wy_cache_text.proofs.LineLemmas.{grouped}
 use Rattle.wy_cache_text.proofs.RereadLemmas.{reads_what_is_written}
-use Rattle.wy_cache_text.specs.Files.{Entries, IsReadAs}
+use Rattle.wy_cache_text.specs.Files.{Entries}
 use Rattle.wy_cache_text.specs.Found.{steps_for}
-use Rattle.wy_cache_text.specs.Lines.{AreInside, AreLines, lines_text}
+use Rattle.wy_cache_text.specs.Lines.{AreInside, lines_text}
 use Rattle.wy_cache_text.specs.Reread.{AreWritable as AreRows, IsWritable as IsRow, held_row}
-use Rattle.wy_cache_text.specs.Written.{IsLongest, Row, is_among, once, once_behind}
+use Rattle.wy_cache_text.specs.Written.{Row, is_among, once, once_behind}
 use Rattle.wy_cache.specs.Cached.{row_of, rows_of, with_row}
-use Rattle.wy_cache.specs.Kept.{IsKept, IsSteps, file_with}
+use Rattle.wy_cache.specs.Kept.{IsSteps, file_with}
 use Rattle.wy_cache.specs.Key.{key_of, line_of}
-use Rattle.wy_cache.specs.Rekept.{AreEntered, AreFormulas, AreTold, AllKept, IsAmong, IsEntered, KeepsWhatIsWritten}
+use Rattle.wy_cache.specs.Rekept.{AreEntered, AreFormulas, IsAmong, IsEntered, KeepsWhatIsWritten}
 use Rattle.wy_cache.proofs.CachedLemmas.{steps_inside, steps_lines}
 
 -- ---- a condition is as many lines as it has hypotheses, and one more
@@ -42,8 +42,8 @@ formulas_inside (f ∷ fs) h = (formula_inside f h.0, formulas_inside fs h.1)
 key_lines : (hyps : List Term) (goal : Term) → texts line_of hyps ++ line_of goal ≡ lines_text (map text_of (hyps ++ goal ∷ []))
 key_lines [] goal = refl
 key_lines (h ∷ hyps) goal =
-    grouped (line_of h) (texts line_of hyps) (line_of goal)
-    ∙ grouped (text_of h) (codes "\n") (texts line_of hyps ++ line_of goal)
+    append_assoc (line_of h) (texts line_of hyps) (line_of goal)
+    ∙ append_assoc (text_of h) (codes "\n") (texts line_of hyps ++ line_of goal)
     ∙ ap (λ (i : List ℕ). text_of h ++ 10 ∷ i) (key_lines hyps goal)
 
 some_steps : (steps : List Written) → AreTrees 1 steps → 0 < length steps
@@ -67,13 +67,13 @@ row_writable c steps h = record {
 step_lines : (steps : List Written) → AreWritable steps → AreStepLines true steps (texts line_text steps)
 step_lines [] h = refl
 step_lines (s ∷ steps) h =
-    (step_text s, texts line_text steps, record { is = grouped (step_text s) (codes "\n") (texts line_text steps); inside = step_inside s h.0 }, line_spells true s (λ e. refl) h.0, step_lines steps h.1)
+    (step_text s, texts line_text steps, record { is = append_assoc (step_text s) (codes "\n") (texts line_text steps); inside = step_inside s h.0 }, line_spells true s (λ e. refl) h.0, step_lines steps h.1)
 
-trees_of : (n : ℕ) (steps : List Written) → AreTrees n steps → AreTreesOf n steps
-trees_of zero [] h = h
-trees_of zero (s ∷ steps) h = h
-trees_of (suc n) [] h = h
-trees_of (suc n) (s ∷ steps) h = trees_of _ steps h
+trees_of : (steps : List Written) (n : ℕ) → AreTrees n steps → AreTreesOf n steps
+trees_of [] zero h = h
+trees_of [] (suc n) h = h
+trees_of (s ∷ steps) zero h = h
+trees_of (s ∷ steps) (suc n) h = trees_of steps (n + children s) h
 
 pub steps_again : (steps : List Written) → AreTrees 1 steps → AreWritable steps → IsSteps (texts line_text steps) steps
 steps_again steps trees writable = record {
@@ -92,9 +92,9 @@ steps_again steps trees writable = record {
           line = codes "cond 1";
           body = texts line_text steps;
           begins = record { is = refl; inside = (refl, (refl, (refl, (refl, (refl, (refl, tt)))))) };
-          opens = record { text = codes "1"; opens = record { is = refl }; number = last_place 1 (omega arith, omega arith) };
+          opens = record { text = codes "1"; opens = record { is = refl }; number = subst (λ (text : List ℕ). IsPlaceAt text 1 []) (decimal_digit 1 (omega arith)) (last_place 1 (omega arith, omega arith)) };
           steps = step_lines steps writable;
-          whole = trees_of 1 steps trees;
+          whole = trees_of steps 1 trees;
         },
         refl,
       );

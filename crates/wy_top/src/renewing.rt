@@ -1,5 +1,5 @@
 //! Certificates for what is saved in a cache.
-ghost use Rattle.std.specs.Prelude.{◌≡◌, ◌<◌, ◌^◌, ◌+◌, ◌∷◌, ℕ, List, All, true, length, map, IfOk, IfSome};
+ghost use Rattle.std.specs.Prelude.{◌≡◌, ◌<◌, ◌^◌, ◌+◌, ◌∷◌, ℕ, List, All, true, length, map, IfOk, IfSome, OnOk};
 ghost use Rattle.wy_batch.specs.Known.{End as SeenEnd, Known, is_closed};
 ghost use Rattle.wy_batch.specs.Seen.{known, seen_end};
 ghost use Rattle.wy_batch.specs.wy_check.Within.{IsWithin};
@@ -70,9 +70,9 @@ fn one_renewed(
         → IfOk result (IsMade (condition_of terms.old cond.now) k.end) }
     ensures taken { (n : ℕ) → (cs : List Condition) → (ks : List Known) → (k : Known) → seen_end end.now ≡ k.end
         → AreSomeTaken budget n (condition_of terms.old cond.now ∷ cs) (k ∷ ks) (waiting left.old.items)
-        → AreSomeTaken budget (n + 1) cs ks (waiting left.new.items) }
+        → OnOk result (AreSomeTaken budget (n + 1) cs ks (waiting left.new.items)) }
     ensures named { IfOk result (λ o. IfSome o NamesItsTerms) }
-    ensures left { All (λ e. NamesItsTerms e.1) left.new.items }
+    ensures left { OnOk result (All (λ e. NamesItsTerms e.1) left.new.items) }
     ensures length { length terms.new ≡ length terms.old }
     ensures kept { (t : ℕ) → t < length terms.old → tree_at terms.new t ≡ tree_at terms.old t }
 {
