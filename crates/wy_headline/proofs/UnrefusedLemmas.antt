@@ -22,6 +22,7 @@ use Rattle.wy_top.specs.wy_top_answers.Loading.{Loads, certificate_limit, source
 use Rattle.wy_top.specs.wy_top_answers.Steps.{Came, IsTold, Setting, ends, goes_on, stated}
 use Rattle.wy_top.specs.wy_top_answers.declared.answer.Answer.{Answer}
 use Rattle.wy_top.specs.wy_top_answers.supplied.Certificates.{IsFileTold, certificates, certificates_read, from_file, without}
+use Rattle.wy_top.specs.wy_top_source.wy_ast.declared.declarations.Program.{Program as Written}
 use Rattle.wy_top.specs.Acceptance.{Acceptance, accepts, accepts_file, accepts_source, accepts_with, are_closed}
 use Rattle.wy_top.specs.Owed.{Owes}
 use Rattle.wy_top.specs.Programs.{Program, conditions_of, count_of}
@@ -46,7 +47,7 @@ module _ (s : Setting) (name bytes : List ℕ) (told : IsTold s name) (h : IsAlo
   nothing_in file r =
       let f = both_came _ _ file r in
       let spelled = subst (λ (bs : List ℕ). Spells bs file.program) (sym (same_source f.value f.came)) f.then.spelled in
-      ap (λ p. p.imports) (one_spelled bytes h.program file.program h.spelled spelled) ∙ h.nothing
+      ap (λ (p : Written). p.imports) (one_spelled bytes h.program file.program h.spelled spelled) ∙ h.nothing
 
   no_behind : (file : SourceFile) → file.program.imports ≡ [] → (a : Answer) → loads_behind s file stated (Err a) → ⊥
   no_behind file none a (goes_on files l e) = no_value _ a e
@@ -101,19 +102,16 @@ one_list_of s name count c told (from_file e h) r (from_file d (goes_on bytes lo
 
 -- ---- its conditions
 
+abbrev of_parts : Core ℕ → List Ty → Program
+of_parts core flow = record { core = core; flow = flow }
+
 module _ (s : Setting) (source cert : List ℕ) (budget : ℕ) (x : Acceptance) (told : AreTold s source cert) where
   module _ (bytes : List ℕ) (h : AcceptsBytes s cert budget bytes x) where
     one_program : (p : Program) → Owes bytes p.core p.flow → p ≡ x.program
     one_program p o =
         let its = h.owes.program in
-        with_parts (one_core bytes p.core x.program.core p.flow x.program.flow o.program its) (one_flow bytes p.core x.program.core p.flow x.program.flow o.program its)
-      where
-        of : Core ℕ → List Ty → Program
-        of core flow = record { core = core; flow = flow }
-
-        with_parts : p.core ≡ x.program.core → p.flow ≡ x.program.flow → p ≡ x.program
-        unfolding of
-        with_parts c f = ap (λ (core : Core ℕ). of core p.flow) c ∙ ap (of x.program.core) f
+        ap (λ (core : Core ℕ). of_parts core p.flow) (one_core bytes p.core x.program.core p.flow x.program.flow o.program its)
+        ∙ ap (of_parts x.program.core) (one_flow bytes p.core x.program.core p.flow x.program.flow o.program its)
 
     no_conditions : (a : Answer) → accepts source cert bytes x.program h.certs budget stated (Err a) → ⊥
     no_conditions a u =
