@@ -158,8 +158,7 @@ module _ (s : Setting) (source cache : List ℕ) (budget : ℕ) (v : Saving) (st
       let r = i.then in
       let closed : are_closed r.verdicts ≡ true = told_closed source f.value p i.value b r.verdicts (count is_kept r.verdicts) (are_closed r.verdicts) refl r.answer zero in
       let split = all_split i.value budget (conditions_of p) r.verdicts r.seen closed in
-      let here : Renewal = record { program = p; kept = count is_kept r.verdicts; searched = split.found } in
-      (
+      let here : Renewal = record { program = p; kept = count is_kept r.verdicts; searched = split.found } in (
         here,
         record { bytes = f.value; alone = takes_nothing s source f.value f.came; owes = g.came; entries = i.value; cached = i.came; closed = split.are },
         r.answer ∙ ap (λ (x : Bool). renewal_answer source f.value p budget (count is_kept r.verdicts) r.verdicts x) closed ∙ ap written (same_line (count_of p) (count is_kept r.verdicts) split.found split.sum),
