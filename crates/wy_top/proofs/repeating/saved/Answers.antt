@@ -36,8 +36,12 @@ cache_text-requires-clause-writable c =
     (saved_writable cs (map known j.verdicts.items) (certificates_of c.in_ok-certs.certs) few
     (saved_here j c.deref.result.now c.deref-2.result.now (certificates_of c.in_ok-certs.certs) c.deref.ensures.value c.deref-2.ensures.value c.in_ok-certs.ensures.saved))
 
-pub returns-clause-file : goal.returns-clause-file
-returns-clause-file c = λ p certs es h seen.
+pub returns : goal.returns
+returns c =
     let j = c.args.judged in
-    cached_as p certs (certificates_of c.in_ok-certs.certs) c.args.budget es j c.renewed.new.terms c.in_ok-text.text.items c.requires.each h seen c.in_ok-certs.ensures.length c.in_ok-certs.ensures.kept
-    (saved_here j c.deref.result.now c.deref-2.result.now (certificates_of c.in_ok-certs.certs) c.deref.ensures.value c.deref-2.ensures.value c.in_ok-certs.ensures.saved) c.in_ok-text.ensures.value
+    let made = certificates_of c.in_ok-certs.certs in
+    let saved = saved_here j c.deref.result.now c.deref-2.result.now made c.deref.ensures.value c.deref-2.ensures.value c.in_ok-certs.ensures.saved in
+    record {
+      file = λ p certs es h seen.
+          cached_as p certs made c.args.budget es j c.renewed.new.terms c.in_ok-text.text.items c.requires.each h seen c.in_ok-certs.ensures.length c.in_ok-certs.ensures.kept saved c.in_ok-text.ensures.value;
+    }
