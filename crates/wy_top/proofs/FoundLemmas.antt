@@ -35,7 +35,7 @@ pushed n c list more cert valid sorted writable is =
 abbrev NamesIn : ℕ × Cert → Type 0
 NamesIn e = NamesItsTerms e.1
 
-abbrev some_cert : Cert → Option Cert
+abbrev pub some_cert : Cert → Option Cert
 some_cert cert = Some cert
 
 pub named_more : (n : ℕ) (list more : List (ℕ × Cert)) (o : Option Cert) (cert : Cert) → o ≡ some_cert cert → IfSome o NamesItsTerms → more ≡ list ++ (n, cert) ∷ [] → All (λ (e : ℕ × Cert). NamesItsTerms e.1) list → All (λ (e : ℕ × Cert). NamesItsTerms e.1) more

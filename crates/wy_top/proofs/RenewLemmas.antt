@@ -1,6 +1,7 @@
 -- The certificates that are saved, one after the other.
 use Rattle.std.proofs.Common.{◌≡◌, ◌∙◌, ◌+◌, ◌<◌, ◌≤◌, ℕ, suc, List, [], ◌∷◌, ◌++◌, All, drop, get_or, length, map, Bool, true, false, Option, Some, None, refl, sym, ap, subst, arith, append_assoc}
-use Rattle.std.proofs.lemmas.List.{append-nil, reverse-append, reverse-reverse}
+use Rattle.std.proofs.lemmas.List.{append-nil, map-append, reverse-append, reverse-reverse}
+use Rattle.std.proofs.lemmas.List.Elements.{All-append, All-cons, All-head, All-nil, All-tail}
 use Rattle.std.specs.Prelude.{IfOk, IfSome, Result, Ok, Err, reverse}
 use Rattle.wy_batch.specs.Known.{End, IsSearched, Known, end_of, found, is_closed, is_found, supplied}
 use Rattle.wy_batch.specs.Seen.{known}
@@ -18,12 +19,10 @@ use Rattle.wy_term.specs.declared.cond.Cond.{Cond}
 use Rattle.wy_top_probe.specs.wy_top_answers.wy_check_spec.valid.Validity.{IsValid}
 use Rattle.wy_top.specs.Caches.{AreSaved, IsMade, IsRenewed, IsSavedRow, IsUnspelled, entry, is_kept, no_entry}
 use Rattle.wy_top.specs.Taken.{AreSomeTaken, AreTaken, TakesRow, not_taken, taken, waiting}
+use Rattle.wy_top.proofs.FoundLemmas.{pair_of, some_cert}
 use Rattle.wy_top.proofs.TakenLemmas.{never_kept}
 
 -- ---- lists that wait
-
-abbrev pub pair_of : ℕ × Cert → ℕ × List Written
-pair_of e = (e.0, steps_of e.1)
 
 -- the last one comes first
 pub waits_first : (old new : List (ℕ × Cert)) (x : ℕ × Cert) → old ≡ new ++ x ∷ [] → waiting old ≡ pair_of x ∷ waiting new
@@ -32,6 +31,13 @@ waits_first old new x is = ap waiting is ∙ ap (λ (l : List (ℕ × Cert)). ma
 -- a list that was turned waits as it stood
 pub turned : (list left : List (ℕ × Cert)) → left ≡ reverse list → waiting left ≡ map pair_of list
 turned list left is = ap waiting is ∙ ap (λ (l : List (ℕ × Cert)). map pair_of l) (reverse-reverse list)
+
+pub All-turned : {X : Type 0} (P : X → Type 0) (list left : List X) → left ≡ reverse list → All P list → All P left
+All-turned {X} P list left is h = subst (All P) (sym is) (all list h)
+  where
+    all : (xs : List X) → All P xs → All P (reverse xs)
+    all [] g = g
+    all (x ∷ xs) g = subst (All P) (sym (reverse-append (x ∷ []) xs)) (All-append P (reverse xs) (x ∷ []) (all xs (All-tail P x xs g)) (All-cons P x [] (All-head P x xs g) (All-nil P)))
 
 -- ---- the condition that comes next
 
@@ -75,10 +81,9 @@ module _ (es : Entries) (budget n : ℕ) (c : Condition) (k : Known) (cs : List 
   none_row others end (taken steps h bad e is) = absurd (cc)
   none_row others end (not_taken never bad e is) = never_supplied c budget k.end e end
 
-  pub none_waits : (old : List (ℕ × Cert)) → old ≡ [] → k.end ≡ supplied → AreTaken es budget n (c ∷ cs) (k ∷ ks) (waiting old) → ⊥
-  none_waits old is end h =
-      let g = subst (λ (l : List (ℕ × Cert)). AreTaken es budget n (c ∷ cs) (k ∷ ks) (waiting l)) is h in
-      none_row g.0 end g.1
+  pub none_waits : (old : List (ℕ × Cert)) → length old ≡ 0 → k.end ≡ supplied → AreTaken es budget n (c ∷ cs) (k ∷ ks) (waiting old) → ⊥
+  none_waits [] none end h = none_row h.0 end h.1
+  none_waits (x ∷ old) none end h = omega (arith, none)
 
   -- it isn't kept: it was searched, and those that wait are for others
   pub record IsPassed (certs : Certificates) : Type 0 where
@@ -93,9 +98,6 @@ module _ (es : Entries) (budget n : ℕ) (c : Condition) (k : Known) (cs : List 
   passed certs apart h = passed_row h.0 certs apart h.1 h.2
 
 -- ---- what is made
-
-abbrev pub some_cert : Cert → Option Cert
-some_cert cert = Some cert
 
 -- the search found it, with so many leaves
 found_with : (c : Condition) (budget : ℕ) (verdict : search.Verdict) → search.IsVerdict c budget verdict → is_found (end_of verdict) ≡ true → (leaves : ℕ) × search.IsVerdict c budget (search.found leaves)
@@ -120,11 +122,17 @@ abbrev pub Follows : (Certificates → Type 0) → ℕ → List Condition → Li
 Follows whole n cs ks done = (others : Certificates) → AreSaved n cs ks others → whole (done ++ others)
 
 module _ (whole : Certificates → Type 0) (n : ℕ) (c : Condition) (k : Known) (cs : List Condition) (ks : List Known) (done : Certificates) where
-  pub saves_one : (cert : Cert) → IsMade c k.end (Some cert) → Follows whole n (c ∷ cs) (k ∷ ks) done → Follows whole (n + 1) cs ks (done ++ (n, steps_of cert) ∷ [])
+  saves_one : (cert : Cert) → IsMade c k.end (Some cert) → Follows whole n (c ∷ cs) (k ∷ ks) done → Follows whole (n + 1) cs ks (done ++ (n, steps_of cert) ∷ [])
   saves_one cert made so_far others h = subst whole (sym (append_assoc done ((n, steps_of cert) ∷ []) others)) (so_far ((n, steps_of cert) ∷ others) (others, entry (steps_of cert) made refl, h))
 
-  pub saves_none : IsMade c k.end None → Follows whole n (c ∷ cs) (k ∷ ks) done → Follows whole (n + 1) cs ks done
-  saves_none made so_far others h = so_far others (others, no_entry made refl, h)
+  pub saves_none : (o : Option Cert) → o ≡ None → IsMade c k.end o → Follows whole n (c ∷ cs) (k ∷ ks) done → Follows whole (n + 1) cs ks done
+  saves_none o is made so_far others h = so_far others (others, no_entry (subst (IsMade c k.end) is made) refl, h)
+
+module _ (whole : Certificates → Type 0) (n : ℕ) (c : Condition) (k : Known) (cs : List Condition) (ks : List Known) (list new : List (ℕ × Cert)) where
+  pub saves_some : (cert : Cert) (o : Option Cert) → o ≡ some_cert cert → new ≡ list ++ (n, cert) ∷ [] → IsMade c k.end o → Follows whole n (c ∷ cs) (k ∷ ks) (map pair_of list) → Follows whole (n + 1) cs ks (map pair_of new)
+  saves_some cert o is pushed made so_far =
+      subst (Follows whole (n + 1) cs ks) (sym (ap (map pair_of) pushed ∙ map-append pair_of list ((n, cert) ∷ [])))
+      (saves_one whole n c k cs ks (map pair_of list) cert (subst (IsMade c k.end) is made) so_far)
 
 -- ---- turns
 

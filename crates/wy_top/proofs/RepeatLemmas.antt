@@ -1,15 +1,18 @@
 -- The command `again`, step by step.
 use Rattle.std.proofs.Common.{◌≡◌, ◌∙◌, ◌<◌, ◌≤◌, ◌^◌, ℕ, List, [], ◌∷◌, All, length, map, Ok, Err, refl, sym, ap, subst, arith}
+use Rattle.std.proofs.lemmas.List.{length-map}
 use Rattle.std.specs.Prelude.{IfOk, Result}
 use Rattle.wy_batch.proofs.JudgedLemmas.{all_within, same_conditions}
 use Rattle.wy_batch.specs.Known.{Known, count}
 use Rattle.wy_batch.specs.Seen.{known}
+use Rattle.wy_batch.specs.declared.verdict.Verdict.{Verdict}
 use Rattle.wy_batch.specs.wy_check.Within.{IsWithin}
 use Rattle.wy_cache.specs.Cached.{rows_of}
 use Rattle.wy_cache.specs.Kept.{AreKept}
 use Rattle.wy_cache_text.specs.Files.{Entries}
 use Rattle.wy_cache_text.specs.Written.{IsLongest}
-use Rattle.wy_cert.specs.Steps.{Certificates, certificates_of}
+use Rattle.wy_cert.specs.Steps.{Certificates, certificates_of, steps_of}
+use Rattle.wy_cert.specs.declared.step.Cert.{Cert}
 use Rattle.wy_cert.specs.declared.step.Certs.{Certs}
 use Rattle.wy_term.specs.Condition.{Condition, condition_of}
 use Rattle.wy_term.specs.Nodes.{Plain, tree_at}
@@ -26,7 +29,7 @@ use Rattle.wy_vc.specs.wy_vc_spec.Limits.{most_conditions}
 use Rattle.wy_top.specs.Acceptance.{are_closed}
 use Rattle.wy_top.specs.Again.{IsCacheOf, IsRenewal, renewal_answer, renews}
 use Rattle.wy_top.specs.Caches.{AreSaved, AreSeen, is_kept}
-use Rattle.wy_top.specs.Kept.{AreKeptOf, HasVerdicts, IsKept}
+use Rattle.wy_top.specs.Kept.{AreEach, AreKeptOf, HasVerdicts, IsKept}
 use Rattle.wy_top.specs.Programs.{Program, conditions_of}
 use Rattle.wy_top.specs.Taken.{AreTaken}
 use Rattle.wy_top.specs.declared.judging.Judged.{Judged}
@@ -72,9 +75,32 @@ module _ (p : Program) (j : Judged) (budget : ℕ) (es : Entries) (certs : Certi
   pub seen_of : AreSeen es budget (conditions_of p) (map known j.verdicts.items)
   seen_of = taken_seen es budget 1 (conditions_of p) (map known j.verdicts.items) certs taken_here
 
+pub saved_here : (j : Judged) (conds : List Cond) (vs : List Verdict) (made : Certificates) → conds ≡ j.conds.list.items → vs ≡ j.verdicts.items → AreSaved 1 (map (condition_of j.conds.terms) conds) (map known vs) made
+    → AreSaved 1 (map (condition_of j.conds.terms) j.conds.list.items) (map known j.verdicts.items) made
+saved_here j conds vs made is are h =
+    subst (λ (cs : List Cond). AreSaved 1 (map (condition_of j.conds.terms) cs) (map known j.verdicts.items) made) is
+    (subst (λ (ws : List Verdict). AreSaved 1 (map (condition_of j.conds.terms) conds) (map known ws) made) are h)
+
+-- what is written of what was saved is a cache of it, with the terms that were made meanwhile
+pub cached_as : (p : Program) (certs made : Certificates) (budget : ℕ) (es : Entries) (j : Judged) (nodes : List Plain) (text : List ℕ) → AreEach j → HasVerdicts p certs budget j → AreSeen es budget (conditions_of p) (map known j.verdicts.items)
+    → length nodes ≡ length j.conds.terms → ((t : ℕ) → t < length j.conds.terms → tree_at nodes t ≡ tree_at j.conds.terms t)
+    → AreSaved 1 (map (condition_of j.conds.terms) j.conds.list.items) (map known j.verdicts.items) made → IsLongest (rows_of (map (condition_of nodes) j.conds.list.items) made) text → IsCacheOf p budget es text
+cached_as p certs made budget es j nodes text each h seen same stay saved is = record {
+  verdicts = map known j.verdicts.items;
+  seen = seen;
+  certificates = made;
+  saved = subst (λ (cs : List Condition). AreSaved 1 cs (map known j.verdicts.items) made) h.conditions saved;
+  is = subst (λ (cs : List Condition). IsLongest (rows_of cs made) text) (same_conditions j.conds.terms nodes j.conds.list.items same stay each.within ∙ h.conditions) is;
+}
+
 -- so many are kept
-pub kept_many : (j : Judged) (budget : ℕ) (certs : Certificates) → AreKeptOf j budget certs → length certs ≡ count is_kept (map known j.verdicts.items)
-kept_many j budget certs h = taken_count h.entries budget 1 _ (map known j.verdicts.items) certs h.taken
+pub kept_so_many : (j : Judged) (budget : ℕ) (kept : Certs) → AreKeptOf j budget (certificates_of kept) → length kept.list.items ≡ count is_kept (map known j.verdicts.items)
+kept_so_many j budget kept h = sym (length-map kept.list.items (λ (e : ℕ × Cert). (e.0, steps_of e.1))) ∙ taken_count h.entries budget 1 _ (map known j.verdicts.items) (certificates_of kept) h.taken
+
+pub kept_few : (j : Judged) (budget : ℕ) (kept : Certs) → AreEach j → AreKeptOf j budget (certificates_of kept) → length kept.list.items ≤ most_conditions
+kept_few j budget kept each h =
+    let within = count_within is_kept (map known j.verdicts.items) in
+    omega (arith, kept_so_many j budget kept h, within, length-map j.verdicts.items known, each.each, each.few)
 
 -- ---- the answer
 

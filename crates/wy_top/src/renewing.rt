@@ -46,10 +46,10 @@ pub fn renewed(
     left.reverse();
     let mut list = Vec::new(alloc);
     for i in 0..conds.len() {
-        let made = one_renewed(terms, &conds[i], &verdicts[i].end, &mut left, budget)?;
-        if let Some(cert) = made {
-            list.push((i as u32 + 1, cert))?;
-        }
+        let Some(cert) = one_renewed(terms, &conds[i], &verdicts[i].end, &mut left, budget)? else {
+            continue;
+        };
+        list.push((i as u32 + 1, cert))?;
     }
     Ok(Certs { list })
 }

@@ -1,4 +1,4 @@
-use Rattle.std.proofs.Common.{◌≡◌, ◌∙◌, ◌+◌, ℕ, List, All, None, Option, false, true, refl, sym, ap, subst}
+use Rattle.std.proofs.Common.{◌≡◌, ◌∙◌, ◌+◌, ℕ, List, All, Option, length, rules, sym, ap, subst}
 use Rattle.std.proofs.lemmas.List.Elements.{All-take}
 use Rattle.std.proofs.lemmas.Result.{IfOk-weaker}
 use Rattle.std.specs.Prelude.{IfSome}
@@ -40,9 +40,11 @@ returns-in-Some-clause-left c =
 pub returns-in-None-clause-made : goal.returns-in-None-clause-made
 returns-in-None-clause-made c = λ n cs ks k is h.
     let end : k.end ≡ supplied = sym is ∙ ap seen_end c.in-Supplied.is in
-    absurd (none_waits h.entries c.args.budget n (condition_of c.args.terms.now c.args.cond.now) k cs ks c.args.left.now.items _ c.in-None.ensures.items end h.taken)
+    let none : length c.args.left.now.items ≡ 0 = search rules in
+    absurd (none_waits h.entries c.args.budget n (condition_of c.args.terms.now c.args.cond.now) k cs ks c.args.left.now.items none end h.taken)
 
 pub returns-in-None-clause-taken : goal.returns-in-None-clause-taken
 returns-in-None-clause-taken c = λ n cs ks k is h.
     let end : k.end ≡ supplied = sym is ∙ ap seen_end c.in-Supplied.is in
-    absurd (none_waits h.entries c.args.budget n (condition_of c.args.terms.now c.args.cond.now) k cs ks c.args.left.now.items _ c.in-None.ensures.items end h.taken)
+    let none : length c.args.left.now.items ≡ 0 = search rules in
+    absurd (none_waits h.entries c.args.budget n (condition_of c.args.terms.now c.args.cond.now) k cs ks c.args.left.now.items none end h.taken)

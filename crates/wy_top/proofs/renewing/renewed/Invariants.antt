@@ -6,7 +6,8 @@ use Rattle.wy_term.specs.Condition.{condition_of}
 use Rattle.wy_term.specs.Nodes.{tree_at}
 use Rattle.wy_top.specs.Caches.{AreSaved}
 use Rattle.wy_top.specs.Taken.{AreSomeTaken, waiting}
-use Rattle.wy_top.proofs.RenewLemmas.{Follows, pair_of}
+use Rattle.wy_top.proofs.FoundLemmas.{pair_of}
+use Rattle.wy_top.proofs.RenewLemmas.{Follows}
 use Rattle.wy_top.proofs.renewing.renewed.Given as goal
 
 -- those for the conditions so far, and those that wait for the others; the terms are as before
