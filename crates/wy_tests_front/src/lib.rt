@@ -6,4 +6,6 @@
 #[cfg(test)]
 mod reading;
 #[cfg(test)]
+mod sources;
+#[cfg(test)]
 mod types;

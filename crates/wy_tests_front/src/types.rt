@@ -1,12 +1,14 @@
-//! Normal forms of types. What flow typing makes of types stands in stored runs.
+//! Normal forms of types. What flow typing makes of types, and which values are in a type, stands in stored runs.
+use crate::sources::program;
 use std::alloc::{AllocError, Global};
-use wy_core::{Atom, Conjunct, Decl};
+use wy_canon::TypeFault;
+use wy_core::{Atom, Conjunct, Decl, Ty};
 use wy_subtype_parts::normal;
-use wy_top_source::read_program;
+use wy_types::Names;
 
 // Types of parameters, each with its normal form behind it: a letter for each conjunct's kind (`R` for all records), and a minus for each
 // of its negatives. They stand behind the first three lines.
-const SOURCE: &str = "\
+const NORMAL: &str = "\
 type N is (int x) where x > 0
 type L is null | {int f, L g}
 method m(
@@ -28,8 +30,13 @@ method m(
     skip
 ";
 
-// A source that is read is no longer than this.
-const LONGEST: usize = 1_048_576;
+// What stands behind a line's type.
+fn wanted(line: Option<&str>) -> &str {
+    match line.unwrap_or("").split_once("//") {
+        Some((_, text)) => text.trim(),
+        None => "no text",
+    }
+}
 
 fn letter(atom: &Atom) -> char {
     match atom {
@@ -53,29 +60,26 @@ fn written(alloc: Global, conjuncts: &[Conjunct]) -> Result<String, AllocError> 
     Ok(text)
 }
 
+fn normal_form(alloc: Global, names: &Names, ty: &Ty) -> Result<String, TypeFault> {
+    if !names.are_guarded() {
+        return Err(TypeFault::TypeWide);
+    }
+    let conjuncts = normal(alloc, names, ty)?;
+    Ok(written(alloc, conjuncts.as_slice())?)
+}
+
 #[test]
-fn types_have_normal_forms(rt: HostRuntime) -> Result<(), AllocError> {
-    let bytes = SOURCE.as_bytes();
-    assert!(rt; bytes.len() <= LONGEST);
-    let Ok(typed) = read_program(rt.alloc(), bytes) else {
-        panic!(rt; "no program")
-    };
-    let names = typed.names();
-    assert!(rt; names.are_guarded());
-    let mut lines = SOURCE.lines().skip(3);
+fn types_have_normal_forms(rt: HostRuntime) -> Result<(), TypeFault> {
+    let typed = program(rt.alloc(), NORMAL)?;
+    let mut lines = NORMAL.lines();
+    for _ in 0..3 {
+        lines.next();
+    }
     for decl in typed.core().decls.as_slice() {
         if let Decl::Routine(routine) = decl {
             for param in routine.params.as_slice() {
-                let Ok(conjuncts) = normal(rt.alloc(), names, &param.ty) else {
-                    panic!(rt; "no normal form")
-                };
-                let text = written(rt.alloc(), conjuncts.as_slice())?;
-                let (_, wanted) = lines
-                    .next()
-                    .unwrap_or("")
-                    .split_once("//")
-                    .unwrap_or(("", "no text"));
-                assert_eq!(rt; text.as_str(), wanted.trim());
+                let text = normal_form(rt.alloc(), typed.names(), &param.ty)?;
+                assert_eq!(rt; text.as_str(), wanted(lines.next()));
             }
         }
     }

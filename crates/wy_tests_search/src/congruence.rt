@@ -1,4 +1,4 @@
-//! Equations between nodes, which nodes are equal then, and by which of the equations.
+//! By which of some equations two nodes are equal. Which nodes are, the contract of `classes` says.
 ghost use Rattle.std.specs.Prelude.{◌≡◌, ◌<◌, ℕ, IsTrue};
 ghost use Rattle.wy_cong.specs.declared.congruence_closure.nodes.Shape.TheVariants.{Apply};
 ghost use Rattle.wy_cong.specs.congruence_closure.Congruence.{AreBetween, AreWithin};
@@ -7,27 +7,10 @@ use std::alloc::Global;
 use wy_cong::congruence_closure::{NoMemory, Shape, classes, explain, is_same};
 use wy_items::Items;
 
-// A row a line: nodes, equations, pairs of nodes that are equal then, and pairs that aren't. The first node is called a, the next one b, and
-// so on: `-` is a name, and `cb` the application of c to b. In order: names; applications of equal nodes to equal nodes, and of what they
-// are; a node of two arguments, of which one alone doesn't make two applications equal; one applied three times, three and five times, and
-// two and four times.
+// A row a line: nodes, equations, two nodes that are equal, and the numbers of the equations by which they are. The others are not needed,
+// and each of these is, whatever others stay. The first node is called a, the next one b, and so on: `-` is a name, and `cb` the application
+// of c to b.
 const ROWS: &str = "\
-- - - - | ab bc | ac ca dd | ad db
-- - ba - da |  | cc | ce ac bd
-- - - ca cb | ab | de | ac da
-- - - ca cb | de | ed | ab
-- - - ca cb cd ce | ba | fg de | fd fa
-- - - ba ca | bc | de | ba
-- - - - - da db eg ec | fc ab | gc hi | ac
-- - - - da db ec fc fa | ab | ef gh | gi ca
-- - - ca cb db ea | fg | gf | ab de
-- - ba bc bd be bf | ea | fc gd | ca dc ad
-- - ba bc bd be bf | ea ga | ca cd de ef fg | ab gb
-- - ba bc bd be bf | da fa | fd ec gc | ca ef";
-
-// The same, with two nodes that are equal, and the numbers of the equations by which they are. The others are not needed, and each of
-// these is, whatever others stay.
-const EXPLAINED: &str = "\
 - - | ab | aa |
 - - - - | ab cd bc | ac | 0 2
 - - - - | cd ab bc | ad | 0 1 2
@@ -104,44 +87,6 @@ fn are_between(count: usize, equations: &[(u32, u32)]) -> bool
     true
 }
 
-// The labels of the nodes under these equations. Where these are of other nodes there are none, as where memory is wanting.
-fn labels(
-    alloc: Global,
-    shapes: &[Shape],
-    equations: &[(u32, u32)],
-) -> Result<Items<u32>, NoMemory> {
-    if !are_within(shapes) || !are_between(shapes.len(), equations) {
-        return Err(NoMemory);
-    }
-    classes(alloc, shapes, equations)
-}
-
-// Whether each of these pairs is of equal nodes, or of different ones.
-fn are_told(labels: &[u32], pairs: &[(u32, u32)], equal: bool) -> bool {
-    for e in pairs {
-        if is_same(labels, e.0, e.1) != equal {
-            return false;
-        }
-    }
-    true
-}
-
-#[test]
-fn nodes_are_equal_so(rt: HostRuntime) -> Result<(), NoMemory> {
-    let alloc = rt.alloc();
-    for row in ROWS.lines() {
-        let mut fields = row.split('|');
-        let shapes = shapes(alloc, fields.next().unwrap_or(""))?;
-        let equations = pairs(alloc, fields.next().unwrap_or(""))?;
-        let labels = labels(alloc, &shapes, &equations)?;
-        let same = pairs(alloc, fields.next().unwrap_or(""))?;
-        assert!(rt; are_told(labels.as_slice(), &same, true), "{row}");
-        let apart = pairs(alloc, fields.next().unwrap_or(""))?;
-        assert!(rt; are_told(labels.as_slice(), &apart, false), "{row}");
-    }
-    Ok(())
-}
-
 // The numbers of the equations by which two nodes are equal.
 fn explained(
     alloc: Global,
@@ -165,7 +110,7 @@ fn explained(
 #[test]
 fn equations_are_needed_so(rt: HostRuntime) -> Result<(), NoMemory> {
     let alloc = rt.alloc();
-    for row in EXPLAINED.lines() {
+    for row in ROWS.lines() {
         let mut fields = row.split('|');
         let shapes = shapes(alloc, fields.next().unwrap_or(""))?;
         let equations = pairs(alloc, fields.next().unwrap_or(""))?;
