@@ -17,5 +17,6 @@ overflow_cast-len c =
 pub returns-clause-value : goal.returns-clause-value
 returns-clause-value c = λ p certs es h seen.
     let ks = map known c.args.judged.verdicts.items in
-    let many = kept_so_many c.args.judged c.args.budget c.args.kept c.requires.taken in
+    let whole : c.len.result ≡ length c.args.kept.list.items = search rules in
+    let many = whole ∙ kept_so_many c.args.judged c.args.budget c.args.kept c.requires.taken in
     record { verdicts = ks; seen = seen; answer = subst (λ (n : ℕ). c.in_ok-answer.answer ≡ renewal_answer c.args.name.now c.args.bytes.now p c.args.budget n ks (are_closed ks)) many (c.in_ok-answer.ensures.value p certs h) }

@@ -8,6 +8,7 @@ use Rattle.wy_check.specs.wy_check_laws.reread.Writable.{AreWritableBehind}
 use Rattle.wy_prove.specs.Answers.{IsFormedThroughout}
 use Rattle.wy_term.specs.Condition.{condition_of}
 use Rattle.wy_term.specs.declared.cond.Cond.{Cond}
+use Rattle.wy_top.specs.Again.{IsCacheOf}
 use Rattle.wy_top.specs.Taken.{AreSomeTaken}
 use Rattle.wy_top.proofs.RepeatLemmas.{cached_as, saved_here}
 use Rattle.wy_top.proofs.WritableLemmas.{saved_writable}
@@ -43,5 +44,6 @@ returns c =
     let saved = saved_here j c.deref.result.now c.deref-2.result.now made c.deref.ensures.value c.deref-2.ensures.value c.in_ok-certs.ensures.saved in
     record {
       file = λ p certs es h seen.
-          cached_as p certs made c.args.budget es j c.renewed.new.terms c.in_ok-text.text.items c.requires.each h seen c.in_ok-certs.ensures.length c.in_ok-certs.ensures.kept saved c.in_ok-text.ensures.value;
+          subst (IsCacheOf p c.args.budget es) (sym c.new.ensures.value)
+          (cached_as p certs made c.args.budget es j c.renewed.new.terms c.in_ok-text.text.items c.requires.each h seen c.in_ok-certs.ensures.length c.in_ok-certs.ensures.kept saved c.in_ok-text.ensures.value);
     }
