@@ -3,9 +3,11 @@ use Rattle.std.proofs.Common.{◌≡◌, ◌∙◌, ℕ, zero, suc, ◌==◌, Bo
 use Rattle.std.specs.Prelude.{codes, if◌then◌else◌}
 use Rattle.std.specs.Fmt.{decimal, digits}
 use Rattle.wy_ast.specs.declared.declarations.Decl.{Decl}
-use Rattle.wy_ast.specs.declared.statements.Stmt.{Stmt}
+use Rattle.wy_ast.specs.declared.expressions.Expr.{fold-Expr}
+use Rattle.wy_ast.specs.declared.statements.Stmt.{Stmt, fold-Stmt}
+use Rattle.wy_ast.specs.declared.types.Ty.{fold-Ty}
 use Rattle.wy_print.specs.ProgramText.{decl_lines, decl_text, more_decls}
-use Rattle.wy_print.specs.StmtText.{lines, shown_stmts}
+use Rattle.wy_print.specs.StmtText.{lines, shown_stmt, shown_stmts}
 use Rattle.wy_top_big.specs.Bodies as bodies
 use Rattle.wy_top_big.specs.Draws.{constant, state_after, template}
 use Rattle.wy_top_big.specs.Source as source
@@ -18,19 +20,19 @@ body_text ss = lines (codes "    ") (shown_stmts ss)
 -- ---- bodies
 
 choice_text : (c : ℕ) → body_text (tree.choice c) ≡ bodies.choice c
-unfolding digits
+unfolding digits fold-Ty fold-Expr fold-Stmt
 choice_text c = simp append_assoc refl
 
 mean_text : (c : ℕ) → body_text (tree.mean c) ≡ bodies.mean c
-unfolding digits
+unfolding digits fold-Ty fold-Expr fold-Stmt
 mean_text c = simp append_assoc refl
 
 count_up_text : (c : ℕ) → body_text (tree.count_up c) ≡ bodies.count_up c
-unfolding digits
+unfolding digits fold-Ty fold-Expr fold-Stmt
 count_up_text c = simp append_assoc refl
 
 measure_text : (c : ℕ) → body_text (tree.measure c) ≡ bodies.measure c
-unfolding digits
+unfolding digits fold-Ty fold-Expr fold-Stmt
 measure_text c = simp append_assoc refl
 
 by_kind : (first second third : Bool) (c : ℕ)
@@ -44,7 +46,7 @@ by_kind false false false c = measure_text c
 -- ---- functions
 
 function_is : (name text : List ℕ) (ss : List Stmt) → body_text ss ≡ text → decl_text (tree.function name ss) ≡ source.function name text
-unfolding digits
+unfolding digits fold-Ty fold-Expr fold-Stmt
 function_is name text ss is =
     let written : decl_text (tree.function name ss) ≡ source.function name (body_text ss) = simp (append_assoc, append-nil) refl in
     written ∙ ap (source.function name) is
@@ -56,15 +58,17 @@ numbered_is n state =
 
 lines_behind : (a b : List Stmt) → body_text (a ++ b) ≡ body_text a ++ body_text b
 lines_behind [] b = refl
-lines_behind (s ∷ a) b = simp append_assoc (ap (λ t. codes "    " ++ (lines (codes "    ") (shown_stmts (s ∷ [])) ++ t)) (lines_behind a b))
+lines_behind (s ∷ a) b = simp append_assoc (ap (λ t. codes "    " ++ ((shown_stmt s).text (codes "    ") ++ t)) (lines_behind a b))
 
 calls_are : (n : ℕ) → body_text (tree.calls n) ≡ source.calls n
+unfolding digits fold-Ty fold-Expr fold-Stmt
 calls_are zero = refl
 calls_are (suc n) =
     let one : body_text (tree.call n ∷ []) ≡ source.call n = simp append_assoc refl in
     lines_behind (tree.calls n) (tree.call n ∷ []) ∙ (ap (λ t. t ++ body_text (tree.call n ∷ [])) (calls_are n) ∙ ap (λ t. source.calls n ++ t) one)
 
 main_is : (count : ℕ) → decl_text (tree.main_function count) ≡ source.main_function count
+unfolding digits fold-Ty fold-Expr fold-Stmt
 main_is count =
     let rest = tree.returns (tree.variable (codes "y")) ∷ [] in
     let behind : body_text (tree.calls count ++ rest) ≡ source.calls count ++ codes "    return y\n" = lines_behind (tree.calls count) rest ∙ ap (λ t. t ++ codes "    return y\n") (calls_are count) in
