@@ -2,5 +2,3 @@
 pub mod SourceLemmas
 -- what the law rests on
 pub mod RowsHold
--- what `print` writes of its tree
-pub mod TreeLemmas

@@ -3,4 +3,3 @@ pub mod Draws
 pub mod Bodies
 pub mod Source
 pub mod Rows
-pub mod Tree
