@@ -5,10 +5,11 @@ use Rattle.wy_batch.specs.Seen.{known, seen_end}
 use Rattle.wy_batch.specs.declared.verdict.Verdict.{Verdict}
 use Rattle.wy_cert.specs.Steps.{Certificates, NamesItsTerms, certificates_of}
 use Rattle.wy_cert.specs.declared.step.Cert.{Cert}
+use Rattle.wy_prove.specs.Answers.{IsFormedThroughout}
 use Rattle.wy_term.specs.Condition.{Condition, condition_of}
 use Rattle.wy_top.specs.Caches.{AreSaved, IsMade}
 use Rattle.wy_top.specs.Taken.{AreSomeTaken, waiting}
-use Rattle.wy_top.proofs.FoundLemmas.{named_more, pair_of}
+use Rattle.wy_top.proofs.FoundLemmas.{formed_at, named_more, pair_of}
 use Rattle.wy_top.proofs.RenewLemmas.{All-turned, next_follows, next_taken, none_follows, saves_none, saves_some, turned}
 use Rattle.wy_top.proofs.renewing.renewed.Goals as goal
 
@@ -87,3 +88,10 @@ returns-clause-saved c =
     let ended : length c.args.conds.now ≤ c.loop-i.i = search rules in
     none_follows (AreSaved 1 (map (condition_of c.args.terms.now) c.args.conds.now) (map known c.args.verdicts.now)) (condition_of c.args.terms.now) c.args.conds.now c.args.verdicts.now c.loop-i.i (map pair_of c.loop-i.list.items)
     ended (omega (arith, ended, c.requires.each)) c.loop-i.invariant.saved
+
+pub one_renewed-requires-clause-formed : goal.one_renewed-requires-clause-formed
+one_renewed-requires-clause-formed c =
+    let lt : c.loop-i.i < length c.args.conds.now = search rules in
+    let cond = c.index-conds-i.result in
+    let same = same_condition c.args.terms.now c.loop-i.terms cond c.loop-i.invariant.same c.loop-i.invariant.kept (within_at (length c.args.terms.now) c.args.conds.now c.loop-i.i cond c.requires.within lt c.index-conds-i.is) in
+    subst IsFormedThroughout (sym same) (formed_at (condition_of c.args.terms.now) c.args.conds.now c.loop-i.i cond c.requires.formed lt c.index-conds-i.is)

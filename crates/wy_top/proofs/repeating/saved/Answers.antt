@@ -4,7 +4,7 @@ use Rattle.wy_batch.proofs.JudgedLemmas.{all_within}
 use Rattle.wy_batch.specs.Seen.{known}
 use Rattle.wy_batch.specs.declared.verdict.Verdict.{Verdict}
 use Rattle.wy_cert.specs.Steps.{certificates_of}
-use Rattle.wy_check.specs.wy_check_laws.reread.Writable.{AreWritableBehind}
+use Rattle.wy_prove.specs.wy_prove_writable.Writable.{AreWritableBehind}
 use Rattle.wy_prove.specs.Answers.{IsFormedThroughout}
 use Rattle.wy_term.specs.Condition.{condition_of}
 use Rattle.wy_term.specs.declared.cond.Cond.{Cond}
