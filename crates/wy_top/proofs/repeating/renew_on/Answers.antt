@@ -10,7 +10,7 @@ use Rattle.wy_top.proofs.RepeatLemmas.{kept_of, kept_still, renewal_gives, seen_
 use Rattle.wy_top.proofs.repeating.renew_on.Goals as goal
 
 pub judge_all-requires-clause-kept : goal.judge_all-requires-clause-kept
-judge_all-requires-clause-kept g c =
+judge_all-requires-clause-kept g c = λ lifetimes within.
     kept_still c.args.owed.typed c.args.owed.conds c.kept.new.conds c.requires.kept c.in-Ok.ensures.list c.in-Ok.ensures.length c.in-Ok.ensures.kept
 
 pub made-requires-clause-taken : goal.made-requires-clause-taken
