@@ -44,9 +44,9 @@ module _ (P : Answer → Type 0) (c : Refuses P) where
   renewal_refused s source cache budget a h =
       of_steps P _ _ (λ b g. alone_refused P c s source b g) (λ bytes b g. of_steps P _ _ (λ d f. owes_refused P c source bytes d f) (λ p d f. of_steps P _ _ (λ e i. caches_refused s cache e i) (λ es e i. absurd i) d f) b g) a h
 
-answer_apart : (name bytes : List ℕ) (p : Program) (budget kept : ℕ) (ks : List Known) (b : Bool) (a : Answer) → a ≡ renewal_answer name bytes p budget kept ks b → Apart a
-answer_apart name bytes p budget kept ks true a is = other 0 a _ is refl no_0
-answer_apart name bytes p budget kept ks false a is = other 1 a _ is refl no_1
+answer_apart : (name bytes : List ℕ) (p : Program) (budget held : ℕ) (ks : List Known) (b : Bool) (a : Answer) → a ≡ renewal_answer name bytes p budget held ks b → Apart a
+answer_apart name bytes p budget held ks true a is = other 0 a _ is refl no_0
+answer_apart name bytes p budget held ks false a is = other 1 a _ is refl no_1
 
 pub renewal_good : (s : Setting) (source cache : List ℕ) (budget : ℕ) (a : Answer) → renews_file s source cache budget stated (Ok a) → Apart a
 renewal_good s source cache budget a h =

@@ -15,7 +15,7 @@ use Rattle.wy_top.specs.wy_link_load.wy_parse_front.Front.{Spells}
 use Rattle.wy_top.specs.wy_link_load.declared.file.SourceFile.{SourceFile}
 use Rattle.wy_top.specs.wy_link_load.declared.loading.Sources.{Sources}
 use Rattle.wy_top.proofs.wy_link_load_proofs.AloneLemmas.{takes_nothing}
-use Rattle.wy_top.proofs.wy_top_answers_proofs.LoadLemmas.{fails_not}
+use Rattle.wy_top.proofs.wy_link_load_proofs.wy_top_answers_proofs.LoadLemmas.{fails_not}
 use Rattle.wy_top.proofs.wy_top_source_proofs.ApartLemmas.{one_flow, text_apart}
 use Rattle.wy_top.proofs.wy_top_source_proofs.OneLemmas.{one_core, one_spelled}
 use Rattle.wy_top.specs.wy_top_answers.Loading.{Loads, certificate_limit, source_limit}
