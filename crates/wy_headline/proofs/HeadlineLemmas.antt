@@ -2,7 +2,7 @@
 use Rattle.std.proofs.Common.{◌≡◌, ◌≢◌, ◌⊎◌, ◌<◌, inl, inr, ℕ, List, [], map, Bool, Some, None, Ok, Err, sym, ap, subst, arith}
 use Rattle.std.specs.Prelude.{⊤}
 use Rattle.wy_top.specs.wy_top_answers.Showing.{Shown, ShowsWhole, Sinks}
-use Rattle.wy_top.specs.wy_top_answers.Steps.{Came, EndsFree, EndsOutside, Setting, due, ends, goes_on, stated}
+use Rattle.wy_top.specs.wy_top_answers.Steps.{IsTold, Came, EndsFree, EndsOutside, Setting, due, ends, goes_on, stated}
 use Rattle.wy_top.specs.wy_top_answers.declared.answer.Answer.{Answer}
 use Rattle.wy_top.specs.wy_mach_run.Running.{Counts, state_of}
 use Rattle.wy_value.specs.Seen.{seen}
