@@ -1,0 +1,4 @@
+-- conditions as a search takes them
+mod SearchLemmas
+-- what recurs in a program that was named
+mod NamedLemmas

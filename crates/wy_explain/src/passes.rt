@@ -1,0 +1,87 @@
+//! The passes from the bytes of a source to its typed and assigned program.
+use crate::faults::{Fault, Pass};
+use std::alloc::Global;
+use wy_assign::AssignFault;
+use wy_assign::typed::assigned;
+use wy_flow::{FlowFault, Typed, check};
+use wy_names::{NameFault, resolve};
+use wy_parse_front::{SourceFault, is_no_memory, offset, read, word};
+
+/// Why a source has no such program.
+#[derive(Clone, Copy, Debug)]
+pub enum Refused {
+    /// The first fault, in the order of the passes.
+    Fault(Fault),
+    NoMemory,
+}
+
+/// The program that the bytes spell with its flow types, where no pass has a fault. They are fewer than 2^32.
+pub fn typed_program(alloc: Global, bytes: &[u8]) -> Result<Typed, Refused> {
+    if bytes.len() >= u32::MAX as usize {
+        return Err(Refused::NoMemory);
+    }
+    let program = match read(alloc, bytes) {
+        Ok(program) => program,
+        Err(fault) => return Err(of_text(fault)),
+    };
+    let core = match resolve(alloc, &program) {
+        Ok(core) => core,
+        Err(fault) => return Err(of_names(fault)),
+    };
+    let typed = match check(alloc, core) {
+        Ok(typed) => typed,
+        Err(fault) => return Err(of_types(fault)),
+    };
+    match assigned(alloc, &typed) {
+        Ok(()) => Ok(typed),
+        Err(fault) => Err(of_paths(fault)),
+    }
+}
+
+fn fault_of(pass: Pass, word: &'static str, at: u32) -> Refused {
+    Refused::Fault(Fault { pass, word, at })
+}
+
+fn of_text(fault: SourceFault) -> Refused {
+    if is_no_memory(fault) {
+        return Refused::NoMemory;
+    }
+    fault_of(Pass::Text, word(fault), offset(fault))
+}
+
+fn of_names(fault: NameFault) -> Refused {
+    let (word, at) = match fault {
+        NameFault::Unknown(at) => ("Unknown", at),
+        NameFault::Twice(at) => ("Twice", at),
+        NameFault::BareRecursion(at) => ("BareRecursion", at),
+        NameFault::PropertyLoop(at) => ("PropertyLoop", at),
+        NameFault::CallInContract(at) => ("CallInContract", at),
+        NameFault::MethodInFunction(at) => ("MethodInFunction", at),
+        NameFault::Arity(at) => ("Arity", at),
+        NameFault::OutsideLoop(at) => ("OutsideLoop", at),
+        NameFault::TooLarge(at) => ("TooLarge", at),
+        NameFault::NoMemory => return Refused::NoMemory,
+    };
+    fault_of(Pass::Names, word, at)
+}
+
+fn of_types(fault: FlowFault) -> Refused {
+    let (word, at) = match fault {
+        FlowFault::NotSubtype(at) => ("NotSubtype", at),
+        FlowFault::NotArray(at) => ("NotArray", at),
+        FlowFault::NoField(at) => ("NoField", at),
+        FlowFault::NotBool(at) => ("NotBool", at),
+        FlowFault::NotInt(at) => ("NotInt", at),
+        FlowFault::TypeWide(at) => ("TypeWide", at),
+        FlowFault::NoMemory => return Refused::NoMemory,
+    };
+    fault_of(Pass::Types, word, at)
+}
+
+fn of_paths(fault: AssignFault) -> Refused {
+    match fault {
+        AssignFault::Unset(at) => fault_of(Pass::Paths, "Unset", at),
+        AssignFault::NoReturn(at) => fault_of(Pass::Paths, "NoReturn", at),
+        AssignFault::NoMemory => Refused::NoMemory,
+    }
+}
