@@ -1,8 +1,8 @@
 //! The commands.
+use crate::explaining::{Asked, Explained, explain};
 use crate::help::HELP;
 use crate::words::Words;
 use std::alloc::Global;
-use wy_explain::{Asked, Explained, explain};
 use wy_port::{Files, LoadFault, Sink, write_whole};
 
 /// The most bytes of a source.

@@ -5,7 +5,10 @@
 #![tactic(auto)]
 
 mod commands;
+mod explaining;
 mod help;
+mod judged;
+mod passes;
 mod words;
 
 use crate::commands::perform;

@@ -3,11 +3,9 @@
 //! The program that is asked has every declaration without its body and clauses, and behind them the one that holds the point: up
 //! to the point as it is written, and then statements that ask, the last of which is `assert (E) is any`. Its flow types then
 //! have the type of E at that point.
-use crate::passes::{Refused, typed_program};
-use crate::seen::Seen;
-use crate::type_text::put_ty;
+use crate::checker::Checker;
 use std::alloc::Global;
-use wy_explain_source::{Class, NoMemory, Node, Page, Role, Span};
+use wy_explain_source::{Class, NoMemory, Node, Page, Role, Seen, Span};
 
 /// Where a question is asked.
 #[derive(Clone, Copy, Debug, PartialEq, Eq)]
@@ -29,9 +27,10 @@ struct Asked {
 
 /// The type of an expression at a spot, as a user writes it, where these statements stand before; nothing where the checker
 /// refuses the program that asks.
-pub fn type_at(
+pub fn type_at<C: Checker>(
     alloc: Global,
     seen: &Seen,
+    checker: &C,
     spot: Spot,
     lines: &[Page],
     expr: &[u8],
@@ -41,33 +40,20 @@ pub fn type_at(
     last.bytes(expr)?;
     last.text(") is any")?;
     let asked = asked(alloc, seen, spot, lines, last.as_slice())?;
-    answer(alloc, &asked)
+    checker.type_before(alloc, asked.page.as_slice(), asked.behind.saturating_add(1))
 }
 
 /// Whether the checker takes a program with these statements at the spot.
-pub fn is_taken(alloc: Global, seen: &Seen, spot: Spot, lines: &[Page]) -> Result<bool, NoMemory> {
+pub fn is_taken<C: Checker>(
+    alloc: Global,
+    seen: &Seen,
+    checker: &C,
+    spot: Spot,
+    lines: &[Page],
+) -> Result<bool, NoMemory> {
     let asked = asked(alloc, seen, spot, lines, b"skip")?;
-    match typed_program(alloc, asked.page.as_slice()) {
-        Ok(_) => Ok(true),
-        Err(Refused::Fault(_)) => Ok(false),
-        Err(Refused::NoMemory) => Err(NoMemory),
-    }
-}
-
-fn answer(alloc: Global, asked: &Asked) -> Result<Option<Page>, NoMemory> {
-    let typed = match typed_program(alloc, asked.page.as_slice()) {
-        Ok(typed) => typed,
-        Err(Refused::Fault(_)) => return Ok(None),
-        Err(Refused::NoMemory) => return Err(NoMemory),
-    };
-    let behind = asked.behind.saturating_add(2);
-    if behind > typed.len() {
-        return Ok(None);
-    }
-    let node = typed.len() - behind;
-    let mut page = Page::new(alloc);
-    put_ty(typed.flow(node), typed.core(), &mut page, false)?;
-    Ok(Some(page))
+    let fault = checker.fault(alloc, asked.page.as_slice())?;
+    Ok(fault.is_none())
 }
 
 fn asked(

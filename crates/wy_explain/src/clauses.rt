@@ -1,8 +1,7 @@
 //! Which clause a condition owes.
-use crate::seen::Seen;
 use std::alloc::Global;
 use wy_core::{Core, Decl, Expr, ExprKind, Op, Routine, Stmt, StmtKind};
-use wy_explain_source::NoMemory;
+use wy_explain_source::{NoMemory, Seen};
 use wy_term::{Cond, CondKind};
 
 /// The place of the clause, or of the part of it between two `&&`, that the condition with this number in the list, from 0, owes;

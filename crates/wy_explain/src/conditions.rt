@@ -6,14 +6,11 @@ use crate::kinds::{clause_words, owing_node, owing_span, put_kind};
 use crate::members::member_type;
 use crate::naming::Naming;
 use crate::parts::{is_equation, made_of, node_at, node_of};
-use crate::seen::Seen;
 use crate::term_text::{Words, put_formula};
-use crate::told::{hint, point_at};
 use crate::uses::{Uses, place_of};
 use std::alloc::Global;
 use wy_core::Core;
-use wy_explain_source::{Class, Finding, NoMemory, Page};
-use wy_search::{OpenLeaf, Why};
+use wy_explain_source::{Class, Finding, NoMemory, Page, Seen, hint, point_at};
 use wy_term::{Cond, CondKind, Node, Terms};
 
 /// The conditions of a program, and what is looked at to tell of them.
@@ -23,6 +20,14 @@ pub struct Owed<'a, 'b> {
     pub core: &'a Core,
     pub terms: &'a Terms,
     pub conds: &'a [Cond],
+}
+
+/// A case that the search leaves open: its literals, in terms of their own, and how its search ended.
+#[derive(Drop)]
+pub struct OpenCase {
+    pub ending: &'static str,
+    pub terms: Terms,
+    pub literals: Vec<(u32, bool)>,
 }
 
 /// What is told of the condition with this number in the list, from 0, whatever its search ended in: what owes it, and which
@@ -143,20 +148,15 @@ pub fn open_finding(
     owed: &Owed,
     number: usize,
     cond: &Cond,
-    leaf: OpenLeaf,
+    case: OpenCase,
     all: bool,
 ) -> Result<Finding, NoMemory> {
-    let ending = match leaf.why {
-        Why::Still => "open still",
-        Why::Crowded => "open crowded",
-        Why::Wide => "open wide",
-    };
-    let mut finding = finding_of(alloc, owed, number, cond, ending)?;
-    let OpenLeaf {
+    let OpenCase {
+        ending,
         mut terms,
         literals,
-        ..
-    } = leaf;
+    } = case;
+    let mut finding = finding_of(alloc, owed, number, cond, ending)?;
     if cond.goal as usize >= owed.terms.len() {
         return Ok(finding);
     }

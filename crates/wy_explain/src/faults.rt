@@ -1,52 +1,34 @@
 //! Faults of a source, pass by pass.
-use crate::name_faults::name_fault;
-use crate::passes::{Refused, typed_program};
-use crate::path_faults::path_fault;
-use crate::seen::Seen;
+use crate::checker::{Checker, Fault, Pass};
 use crate::text_faults::text_fault;
 use crate::type_faults::type_fault;
 use std::alloc::Global;
-use wy_explain_source::{Finding, NoMemory, Page, Role, Span, put_finding};
-use wy_vc::VcFault;
-
-/// The pass that has a fault.
-#[derive(Clone, Copy, Debug, PartialEq, Eq)]
-pub enum Pass {
-    Text,
-    Names,
-    Types,
-    Paths,
-}
-
-/// A fault: its pass, its word and its place.
-#[derive(Clone, Copy, Debug)]
-pub struct Fault {
-    pub pass: Pass,
-    pub word: &'static str,
-    pub at: u32,
-}
+use wy_explain_source::{
+    Finding, NoMemory, Page, Role, Seen, Span, name_fault, path_fault, put_finding,
+};
 
 /// How many faults are told.
 const MOST: usize = 8;
 
 /// Writes what is told of the fault, and of the first faults of the same pass in other functions and methods: those that come where the
 /// bodies with the faults before are left out.
-pub fn put_faults(
+pub fn put_faults<C: Checker>(
     alloc: Global,
     page: &mut Page,
     seen: &Seen,
+    checker: &C,
     first: Fault,
     all: bool,
 ) -> Result<(), NoMemory> {
     let mut fault = first;
     let mut left: Vec<u8> = Vec::from_slice(alloc, seen.source.bytes)?;
     for _ in 0..MOST {
-        let finding = finding_of(alloc, seen, fault)?;
+        let finding = finding_of(alloc, seen, checker, fault)?;
         put_finding(page, &seen.source, &finding, all)?;
         if fault.pass == Pass::Text || !blank(seen, left.as_mut_slice(), fault.at) {
             break;
         }
-        fault = match next_fault(alloc, left.as_slice())? {
+        fault = match checker.fault(alloc, left.as_slice())? {
             Some(next) => next,
             None => break,
         };
@@ -57,20 +39,16 @@ pub fn put_faults(
     Ok(())
 }
 
-// The fault of what is left.
-fn next_fault(alloc: Global, left: &[u8]) -> Result<Option<Fault>, NoMemory> {
-    match typed_program(alloc, left) {
-        Ok(_) => Ok(None),
-        Err(Refused::Fault(fault)) => Ok(Some(fault)),
-        Err(Refused::NoMemory) => Err(NoMemory),
-    }
-}
-
-fn finding_of(alloc: Global, seen: &Seen, fault: Fault) -> Result<Finding, NoMemory> {
+fn finding_of<C: Checker>(
+    alloc: Global,
+    seen: &Seen,
+    checker: &C,
+    fault: Fault,
+) -> Result<Finding, NoMemory> {
     match fault.pass {
         Pass::Text => text_fault(alloc, seen, fault.word, fault.at),
         Pass::Names => name_fault(alloc, seen, fault.word, fault.at),
-        Pass::Types => type_fault(alloc, seen, fault.word, fault.at),
+        Pass::Types => type_fault(alloc, seen, checker, fault.word, fault.at),
         Pass::Paths => path_fault(alloc, seen, fault.word, fault.at),
     }
 }
@@ -109,32 +87,4 @@ fn body_around(seen: &Seen, at: u32) -> Option<Span> {
         return Some(span);
     }
     None
-}
-
-/// Writes that the program owes too much to be listed.
-pub fn unseen_limit(
-    alloc: Global,
-    page: &mut Page,
-    seen: &Seen,
-    fault: VcFault,
-) -> Result<(), NoMemory> {
-    let span = seen.mark_at(0);
-    let mut finding = match fault {
-        VcFault::NoMemory => return Err(NoMemory),
-        VcFault::TooManyConds => Finding::new(alloc, "TooManyConds", 0, span),
-        VcFault::TooManyTerms(_) => Finding::new(alloc, "TooManyTerms", 0, span),
-    };
-    match fault {
-        VcFault::TooManyTerms(number) => {
-            finding.message.text("The terms of condition ")?;
-            finding.message.number(u64::from(number))?;
-            finding.message.text(
-                ", or those of all up to it, are too many: a condition has at most 16,384, all together 4,194,304. Divide the function that owes it.",
-            )?;
-        }
-        _ => finding.message.text(
-            "The program owes more than 16,384 conditions. Divide it into sources.",
-        )?,
-    }
-    put_finding(page, &seen.source, &finding, false)
 }

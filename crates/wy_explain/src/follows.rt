@@ -1,8 +1,7 @@
 //! What could stand in the place of a token that can't.
-use crate::seen::Seen;
 use crate::text_faults::open_bracket;
 use std::alloc::Global;
-use wy_explain_source::{NoMemory, Page, Span};
+use wy_explain_source::{NoMemory, Page, Seen, Span};
 use wy_parse_front::{is_no_memory, offset, read};
 
 /// Sources above this size aren't tried.

@@ -1,8 +1,7 @@
 //! How programs are mended whose conditions the search leaves open: the table of docs/WRITING.md.
 use crate::parts::{made_of, made_of_all, node_at, node_of};
-use crate::seen::Seen;
 use std::alloc::Global;
-use wy_explain_source::{Class, NoMemory, Role};
+use wy_explain_source::{Class, NoMemory, Role, Seen};
 use wy_term::{Cond, CondKind, Node, Terms};
 
 /// The hints, in the order of the table, each by its lines.

@@ -1,6 +1,5 @@
 //! The kinds of conditions in words.
-use crate::seen::Seen;
-use wy_explain_source::{Class, NoMemory, Node, Page, Role, Span};
+use wy_explain_source::{Class, NoMemory, Node, Page, Role, Seen, Span};
 use wy_term::{CondKind, Node as Term, Terms};
 
 /// What is said of a condition that isn't shown: which construct owes what.

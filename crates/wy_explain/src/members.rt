@@ -1,6 +1,5 @@
 //! Which type a value has to be of.
-use crate::seen::Seen;
-use wy_explain_source::{Class, Node, Role};
+use wy_explain_source::{Class, Node, Role, Seen};
 use wy_term::{Cond, CondKind};
 
 /// The type that a member condition asks for, as it is written, with the place of its first clause; nothing where that isn't plain.

@@ -2,9 +2,8 @@
 //!
 //! A condition has a new name for each value that a variable gets: `i.7`. In a source's words it is the variable with the line
 //! where it got this value: `i@8`; a value that a parameter had at entry has the parameter's name alone.
-use crate::seen::Seen;
 use std::alloc::Global;
-use wy_explain_source::{Class, NoMemory, Node, Page};
+use wy_explain_source::{Class, NoMemory, Node, Page, Seen};
 
 /// A name of a condition: what it is called, and what it stands for.
 #[derive(Drop)]

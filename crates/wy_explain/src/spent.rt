@@ -1,9 +1,7 @@
 //! Conditions whose budget is spent.
 use crate::parts::node_of;
-use crate::seen::Seen;
-use crate::told::{hint, point};
 use std::alloc::Global;
-use wy_explain_source::{Class, Finding, NoMemory, Page};
+use wy_explain_source::{Class, Finding, NoMemory, Page, Seen, hint, point};
 use wy_term::{Cond, Node, Terms};
 
 /// Tells why a search may have so many cases: what is known before the goal has so many alternatives, and which constructs bring them.

@@ -1,10 +1,9 @@
 //! Faults of the text: what can't be read.
 use crate::follows::{could_stand, put_choices};
-use crate::seen::Seen;
-use crate::told::{hint, point_at};
 use std::alloc::Global;
-use wy_explain_source::{Finding, Mark, NoMemory, Page, Sort, Span};
-use wy_lex::{TokenKind, tokens};
+use wy_explain_source::{
+    Finding, Mark, NoMemory, Page, Seen, Sort, Span, TokenKind, hint, point_at, tokens,
+};
 
 /// What is told of a fault of the text at this place.
 pub fn text_fault(

@@ -1,24 +1,26 @@
 //! Faults of types.
 use crate::asking::{Spot, is_taken, type_at};
-use crate::seen::Seen;
-use crate::told::{hint, point, point_at};
+use crate::checker::Checker;
 use std::alloc::Global;
-use wy_explain_source::{Class, Finding, NoMemory, Node, Page, Role, Span};
+use wy_explain_source::{
+    Class, Finding, NoMemory, Node, Page, Role, Seen, Span, hint, point, point_at,
+};
 
 /// What is told of a fault of types at this place.
-pub fn type_fault(
+pub fn type_fault<C: Checker>(
     alloc: Global,
     seen: &Seen,
+    checker: &C,
     word: &'static str,
     at: u32,
 ) -> Result<Finding, NoMemory> {
     let mut finding = Finding::new(alloc, word, at, seen.mark_at(at));
     match word {
-        "NotSubtype" => not_subtype(alloc, seen, &mut finding)?,
-        "NotArray" => not_part(alloc, seen, &mut finding, "an array is needed")?,
-        "NoField" => no_field(alloc, seen, &mut finding)?,
-        "NotBool" => not_bool(alloc, seen, &mut finding)?,
-        "NotInt" => not_int(alloc, seen, &mut finding)?,
+        "NotSubtype" => not_subtype(alloc, seen, checker, &mut finding)?,
+        "NotArray" => not_part(alloc, seen, checker, &mut finding, "an array is needed")?,
+        "NoField" => no_field(alloc, seen, checker, &mut finding)?,
+        "NotBool" => not_bool(alloc, seen, checker, &mut finding)?,
+        "NotInt" => not_int(alloc, seen, checker, &mut finding)?,
         _ => {
             finding.message.text(
                 "A question about the types here is too wide: it reaches more than 16,384 cases. Give unions of records fewer members, or test and name the parts one by one.",
@@ -132,14 +134,22 @@ fn push_known(
 }
 
 // The type of a stretch of the source at a point.
-fn type_of(
+fn type_of<C: Checker>(
     alloc: Global,
     seen: &Seen,
+    checker: &C,
     point: &Point,
     span: Span,
 ) -> Result<Option<Page>, NoMemory> {
     match point.spot {
-        Some(spot) => type_at(alloc, seen, spot, point.lines.as_slice(), seen.text(span)),
+        Some(spot) => type_at(
+            alloc,
+            seen,
+            checker,
+            spot,
+            point.lines.as_slice(),
+            seen.text(span),
+        ),
         None => Ok(None),
     }
 }
@@ -163,7 +173,12 @@ fn put_is(
 
 // ---- NotSubtype
 
-fn not_subtype(alloc: Global, seen: &Seen, finding: &mut Finding) -> Result<(), NoMemory> {
+fn not_subtype<C: Checker>(
+    alloc: Global,
+    seen: &Seen,
+    checker: &C,
+    finding: &mut Finding,
+) -> Result<(), NoMemory> {
     let is_meant = |class: Class| class.is_stmt() || class == Class::Call;
     let number = match seen.nodes.find(finding.at, is_meant) {
         Some(number) => number,
@@ -180,6 +195,7 @@ fn not_subtype(alloc: Global, seen: &Seen, finding: &mut Finding) -> Result<(), 
             not_within(
                 alloc,
                 seen,
+                checker,
                 finding,
                 number,
                 Role::Value,
@@ -192,6 +208,7 @@ fn not_subtype(alloc: Global, seen: &Seen, finding: &mut Finding) -> Result<(), 
             not_within(
                 alloc,
                 seen,
+                checker,
                 finding,
                 number,
                 Role::Value,
@@ -199,20 +216,30 @@ fn not_subtype(alloc: Global, seen: &Seen, finding: &mut Finding) -> Result<(), 
                 "the variable's type",
             )
         }
-        Class::Assign => assigned(alloc, seen, finding, number, node),
+        Class::Assign => assigned(alloc, seen, checker, finding, number, node),
         Class::For => {
-            not_within(alloc, seen, finding, number, Role::From, None, "int")?;
+            not_within(
+                alloc,
+                seen,
+                checker,
+                finding,
+                number,
+                Role::From,
+                None,
+                "int",
+            )?;
             finding.message.text(" ")?;
-            not_within(alloc, seen, finding, number, Role::To, None, "int")
+            not_within(alloc, seen, checker, finding, number, Role::To, None, "int")
         }
-        _ => called(alloc, seen, finding, number, node),
+        _ => called(alloc, seen, checker, finding, number, node),
     }
 }
 
 // The value of a statement lies outside of a type that is written elsewhere.
-fn not_within(
+fn not_within<C: Checker>(
     alloc: Global,
     seen: &Seen,
+    checker: &C,
     finding: &mut Finding,
     stmt: usize,
     role: Role,
@@ -227,10 +254,12 @@ fn not_within(
         spot: Some(Spot::Before(stmt)),
         lines: Vec::new(alloc),
     };
-    let own = type_of(alloc, seen, &point, value.span)?;
+    let own = type_of(alloc, seen, checker, &point, value.span)?;
     put_is(finding, seen, value.span, &own)?;
     match ty {
-        Some(ty) => outside(alloc, seen, finding, &point, value.span, &own, ty, what),
+        Some(ty) => outside(
+            alloc, seen, checker, finding, &point, value.span, &own, ty, what,
+        ),
         None => {
             finding.message.text(", and `")?;
             finding.message.text(what)?;
@@ -240,9 +269,10 @@ fn not_within(
 }
 
 // Behind the type of the value: the type that is asked for, and which of the value's values lie outside.
-fn outside(
+fn outside<C: Checker>(
     alloc: Global,
     seen: &Seen,
+    checker: &C,
     finding: &mut Finding,
     at: &Point,
     value: Span,
@@ -255,7 +285,7 @@ fn outside(
     finding.message.text(what)?;
     finding.message.text(" is ")?;
     finding.message.code(asked)?;
-    let left = type_outside(alloc, seen, at, value, asked)?;
+    let left = type_outside(alloc, seen, checker, at, value, asked)?;
     match (left, own) {
         (Some(left), Some(own)) => {
             if left.as_slice() != own.as_slice() && left.as_slice() != b"void".as_slice() {
@@ -277,9 +307,10 @@ fn outside(
 }
 
 // The type of those values of an expression that aren't in a type.
-fn type_outside(
+fn type_outside<C: Checker>(
     alloc: Global,
     seen: &Seen,
+    checker: &C,
     at: &Point,
     value: Span,
     asked: &[u8],
@@ -299,7 +330,7 @@ fn type_outside(
     line.bytes(asked)?;
     line.text("))")?;
     lines.push(line)?;
-    type_at(alloc, seen, spot, lines.as_slice(), b"value__")
+    type_at(alloc, seen, checker, spot, lines.as_slice(), b"value__")
 }
 
 // The lines once more.
@@ -345,9 +376,10 @@ fn mended(
     Ok(())
 }
 
-fn assigned(
+fn assigned<C: Checker>(
     alloc: Global,
     seen: &Seen,
+    checker: &C,
     finding: &mut Finding,
     number: usize,
     node: Node,
@@ -358,6 +390,7 @@ fn assigned(
         None => not_within(
             alloc,
             seen,
+            checker,
             finding,
             number,
             Role::Value,
@@ -373,7 +406,7 @@ fn assigned(
                 spot: Some(Spot::Before(number)),
                 lines: Vec::new(alloc),
             };
-            let own = type_of(alloc, seen, &point, value.span)?;
+            let own = type_of(alloc, seen, checker, &point, value.span)?;
             put_is(finding, seen, value.span, &own)?;
             finding.message.text(", and with it in its part ")?;
             finding.message.code(name)?;
@@ -387,9 +420,10 @@ fn assigned(
 }
 
 // Which argument lies outside of its parameter's type.
-fn called(
+fn called<C: Checker>(
     alloc: Global,
     seen: &Seen,
+    checker: &C,
     finding: &mut Finding,
     number: usize,
     node: Node,
@@ -404,19 +438,20 @@ fn called(
         let ty = param_type(seen, callee, place);
         place = place.saturating_add(1);
         let is_within = match ty {
-            Some(ty) => fits(alloc, seen, &at, argument.span, seen.text(ty.span))?,
+            Some(ty) => fits(alloc, seen, checker, &at, argument.span, seen.text(ty.span))?,
             None => false,
         };
         if is_within {
             continue;
         }
-        let own = type_of(alloc, seen, &at, argument.span)?;
+        let own = type_of(alloc, seen, checker, &at, argument.span)?;
         finding.span = argument.span;
         put_is(finding, seen, argument.span, &own)?;
         return match ty {
             Some(ty) => outside(
                 alloc,
                 seen,
+                checker,
                 finding,
                 &at,
                 argument.span,
@@ -452,7 +487,14 @@ fn param_type(seen: &Seen, callee: Option<usize>, place: usize) -> Option<Node> 
 }
 
 // Whether a value may come into a variable of a type.
-fn fits(alloc: Global, seen: &Seen, at: &Point, value: Span, ty: &[u8]) -> Result<bool, NoMemory> {
+fn fits<C: Checker>(
+    alloc: Global,
+    seen: &Seen,
+    checker: &C,
+    at: &Point,
+    value: Span,
+    ty: &[u8],
+) -> Result<bool, NoMemory> {
     let spot = match at.spot {
         Some(spot) => spot,
         None => return Ok(false),
@@ -464,7 +506,7 @@ fn fits(alloc: Global, seen: &Seen, at: &Point, value: Span, ty: &[u8]) -> Resul
     line.bytes(seen.text(value))?;
     line.text(")")?;
     lines.push(line)?;
-    is_taken(alloc, seen, spot, lines.as_slice())
+    is_taken(alloc, seen, checker, spot, lines.as_slice())
 }
 
 // ---- NotArray, NoField
@@ -495,9 +537,10 @@ fn whole_of(seen: &Seen, at: u32) -> Option<(usize, Span)> {
     Some((number, whole.span))
 }
 
-fn not_part(
+fn not_part<C: Checker>(
     alloc: Global,
     seen: &Seen,
+    checker: &C,
     finding: &mut Finding,
     needed: &str,
 ) -> Result<(), NoMemory> {
@@ -513,7 +556,7 @@ fn not_part(
         None => whole,
     };
     let at = point_of(alloc, seen, number)?;
-    let ty = type_of(alloc, seen, &at, whole)?;
+    let ty = type_of(alloc, seen, checker, &at, whole)?;
     put_is(finding, seen, whole, &ty)?;
     finding.message.text(", and ")?;
     finding.message.text(needed)?;
@@ -521,7 +564,12 @@ fn not_part(
     narrowed(alloc, seen, finding, whole, &ty)
 }
 
-fn no_field(alloc: Global, seen: &Seen, finding: &mut Finding) -> Result<(), NoMemory> {
+fn no_field<C: Checker>(
+    alloc: Global,
+    seen: &Seen,
+    checker: &C,
+    finding: &mut Finding,
+) -> Result<(), NoMemory> {
     let (number, whole) = match whole_of(seen, finding.at) {
         Some(found) => found,
         None => return Ok(()),
@@ -535,7 +583,7 @@ fn no_field(alloc: Global, seen: &Seen, finding: &mut Finding) -> Result<(), NoM
         to: name.to,
     };
     let at = point_of(alloc, seen, number)?;
-    let ty = type_of(alloc, seen, &at, whole)?;
+    let ty = type_of(alloc, seen, checker, &at, whole)?;
     put_is(finding, seen, whole, &ty)?;
     finding
         .message
@@ -581,9 +629,10 @@ fn narrowed(
 // ---- NotBool, NotInt
 
 // Tells the first of these parts whose type isn't the one that is needed; whether there is one.
-fn told_part(
+fn told_part<C: Checker>(
     alloc: Global,
     seen: &Seen,
+    checker: &C,
     finding: &mut Finding,
     part: usize,
     needed: &str,
@@ -593,7 +642,7 @@ fn told_part(
         None => return Ok(false),
     };
     let at = point_of(alloc, seen, part)?;
-    let ty = match type_of(alloc, seen, &at, node.span)? {
+    let ty = match type_of(alloc, seen, checker, &at, node.span)? {
         Some(ty) => ty,
         None => return Ok(false),
     };
@@ -612,9 +661,10 @@ fn told_part(
 }
 
 // Tells the first part of the node whose type isn't the one that is needed.
-fn told_parts(
+fn told_parts<C: Checker>(
     alloc: Global,
     seen: &Seen,
+    checker: &C,
     finding: &mut Finding,
     number: usize,
     needed: &str,
@@ -622,7 +672,7 @@ fn told_parts(
     let mut part = 0usize;
     for node in seen.nodes.all() {
         if node.parent == number && is_asked(node.role) && node.class.is_expr() {
-            if told_part(alloc, seen, finding, part, needed)? {
+            if told_part(alloc, seen, checker, finding, part, needed)? {
                 return Ok(true);
             }
         }
@@ -645,11 +695,16 @@ fn is_asked(role: Role) -> bool {
     }
 }
 
-fn not_bool(alloc: Global, seen: &Seen, finding: &mut Finding) -> Result<(), NoMemory> {
+fn not_bool<C: Checker>(
+    alloc: Global,
+    seen: &Seen,
+    checker: &C,
+    finding: &mut Finding,
+) -> Result<(), NoMemory> {
     let is_clause = |class: Class| class.is_expr();
     let is_stmt = |class: Class| class.is_stmt();
     let is_told = match seen.nodes.find(finding.at, is_stmt) {
-        Some(number) => told_parts(alloc, seen, finding, number, "bool")?,
+        Some(number) => told_parts(alloc, seen, checker, finding, number, "bool")?,
         None => false,
     };
     if is_told {
@@ -657,10 +712,10 @@ fn not_bool(alloc: Global, seen: &Seen, finding: &mut Finding) -> Result<(), NoM
     }
     match seen.nodes.find(finding.at, is_clause) {
         Some(number) => {
-            if told_part(alloc, seen, finding, number, "bool")? {
+            if told_part(alloc, seen, checker, finding, number, "bool")? {
                 return Ok(());
             }
-            if told_parts(alloc, seen, finding, number, "bool")? {
+            if told_parts(alloc, seen, checker, finding, number, "bool")? {
                 return Ok(());
             }
         }
@@ -671,7 +726,12 @@ fn not_bool(alloc: Global, seen: &Seen, finding: &mut Finding) -> Result<(), NoM
     )
 }
 
-fn not_int(alloc: Global, seen: &Seen, finding: &mut Finding) -> Result<(), NoMemory> {
+fn not_int<C: Checker>(
+    alloc: Global,
+    seen: &Seen,
+    checker: &C,
+    finding: &mut Finding,
+) -> Result<(), NoMemory> {
     let is_meant = |class: Class| class.is_expr() || class.is_stmt();
     match seen.nodes.find(finding.at, is_meant) {
         Some(number) => {
@@ -682,12 +742,12 @@ fn not_int(alloc: Global, seen: &Seen, finding: &mut Finding) -> Result<(), NoMe
             };
             let is_told = if is_index {
                 match seen.child_number(number, Role::Right) {
-                    Some(part) => told_part(alloc, seen, finding, part, "int")?,
+                    Some(part) => told_part(alloc, seen, checker, finding, part, "int")?,
                     None => false,
                 }
             } else {
-                told_parts(alloc, seen, finding, number, "int")?
-                    || told_ranges(alloc, seen, finding, number)?
+                told_parts(alloc, seen, checker, finding, number, "int")?
+                    || told_ranges(alloc, seen, checker, finding, number)?
             };
             if is_told {
                 return Ok(());
@@ -702,16 +762,17 @@ fn not_int(alloc: Global, seen: &Seen, finding: &mut Finding) -> Result<(), NoMe
 }
 
 // The bounds of a quantifier.
-fn told_ranges(
+fn told_ranges<C: Checker>(
     alloc: Global,
     seen: &Seen,
+    checker: &C,
     finding: &mut Finding,
     number: usize,
 ) -> Result<bool, NoMemory> {
     let mut range = 0usize;
     for node in seen.nodes.all() {
         if node.parent == number && node.class == Class::Range {
-            if told_parts(alloc, seen, finding, range, "int")? {
+            if told_parts(alloc, seen, checker, finding, range, "int")? {
                 return Ok(true);
             }
         }

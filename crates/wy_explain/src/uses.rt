@@ -1,8 +1,7 @@
 //! Where the names of conditions are first spoken of.
 use crate::parts::{node_at, node_of, put_parts};
-use crate::seen::Seen;
 use std::alloc::Global;
-use wy_explain_source::{Class, NoMemory};
+use wy_explain_source::{Class, NoMemory, Seen};
 use wy_term::{Cond, CondKind, Node, Terms};
 
 /// For each term the number of the first condition of a declaration that is made of it.

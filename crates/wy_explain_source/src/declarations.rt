@@ -1,12 +1,11 @@
 //! Declarations in the list of nodes.
 use crate::expressions::put_all;
 use crate::marks::{Marks, Sort};
-use crate::memory::NoMemory;
 use crate::nodes::{Class, NOWHERE, Nodes, Role, Span};
 use crate::statements::put_block;
 use crate::types::{name_behind, put_type};
 use std::alloc::Global;
-use wy_ast::{Alias, Decl, Expr, Function, Method, Param, Program, Property, Stmt, Ty};
+use wy_ast::{Alias, Decl, Expr, Function, Method, NoMemory, Param, Program, Property, Stmt, Ty};
 
 /// The nodes of a program, each behind its parent, in the order in which they are written.
 pub fn nodes_of(alloc: Global, program: &Program, marks: &Marks) -> Result<Nodes, NoMemory> {

@@ -1,8 +1,8 @@
 //! A line of the source with carets below a stretch of it.
-use crate::memory::NoMemory;
 use crate::nodes::Span;
 use crate::page::Page;
 use crate::source::{Source, cut};
+use wy_ast::NoMemory;
 
 /// The most columns of a line's text.
 const WIDEST: usize = 91;

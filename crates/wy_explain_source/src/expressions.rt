@@ -1,9 +1,8 @@
 //! Expressions in the list of nodes.
 use crate::marks::{Marks, Sort};
-use crate::memory::NoMemory;
 use crate::nodes::{Class, Nodes, Role, Span};
 use crate::types::{name_behind, put_type};
-use wy_ast::{Expr, ExprKind, Op};
+use wy_ast::{Expr, ExprKind, NoMemory, Op};
 use wy_data::Name;
 
 /// Puts an expression behind the nodes; the stretch that it takes.

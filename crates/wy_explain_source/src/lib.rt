@@ -9,28 +9,38 @@
 //! Nothing is promised of these texts but that they are made safely and in finite time.
 #![tactic(auto)]
 
+mod circles;
 mod declarations;
 mod drawing;
 mod expressions;
 mod finding;
 mod marks;
-mod memory;
+mod name_faults;
+mod nearest;
 mod nodes;
 mod page;
+mod path_faults;
+mod seen;
 mod shown;
 mod source;
 mod statements;
+mod told;
 mod types;
 
 pub use declarations::nodes_of;
 pub use drawing::draw;
 pub use finding::{Finding, Label};
 pub use marks::{Mark, Marks, Sort};
-pub use memory::NoMemory;
+pub use name_faults::name_fault;
 pub use nodes::{Class, NOWHERE, Node, Nodes, Role, Span};
 pub use page::Page;
+pub use path_faults::path_fault;
+pub use seen::Seen;
 pub use shown::put_finding;
 pub use source::Source;
+pub use told::{hint, point, point_at};
+pub use wy_ast::{NoMemory, Program};
+pub use wy_lex::{TokenKind, tokens};
 
 #[cfg(test)]
 mod tests;

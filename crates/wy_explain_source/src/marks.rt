@@ -1,8 +1,8 @@
 //! The marks of a source: its tokens with the bytes that they take.
-use crate::memory::NoMemory;
 use crate::nodes::{Span, narrow};
 use crate::source::cut;
 use std::alloc::Global;
+use wy_ast::NoMemory;
 use wy_lex::{Token, TokenKind};
 
 /// What a mark is, as far as an explanation asks.

@@ -1,6 +1,6 @@
 //! The program as a list of nodes.
-use crate::memory::NoMemory;
 use std::alloc::Global;
+use wy_ast::NoMemory;
 
 /// A stretch of a source: its first byte, and the byte behind its last one.
 #[derive(Clone, Copy, Debug, PartialEq, Eq)]

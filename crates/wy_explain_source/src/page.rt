@@ -1,6 +1,6 @@
 //! Texts that grow.
-use crate::memory::NoMemory;
 use std::alloc::Global;
+use wy_ast::NoMemory;
 
 /// A text that grows.
 #[derive(Drop)]

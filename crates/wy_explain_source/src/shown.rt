@@ -1,9 +1,9 @@
 //! Findings as people read them.
 use crate::drawing::draw;
 use crate::finding::{Finding, Label};
-use crate::memory::NoMemory;
 use crate::page::Page;
 use crate::source::Source;
+use wy_ast::NoMemory;
 
 /// The most columns of a line.
 const WIDEST: usize = 100;

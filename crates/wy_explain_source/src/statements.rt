@@ -1,10 +1,9 @@
 //! Statements in the list of nodes.
 use crate::expressions::{put_all, put_expr};
 use crate::marks::Marks;
-use crate::memory::NoMemory;
 use crate::nodes::{Class, Nodes, Role, Span};
 use crate::types::{name_behind, put_type};
-use wy_ast::{Case, Step, StepKind, Stmt, StmtKind};
+use wy_ast::{Case, NoMemory, Step, StepKind, Stmt, StmtKind};
 
 /// Puts the statements of a block behind the nodes.
 #[cycle(stmts)]

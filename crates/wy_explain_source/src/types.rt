@@ -1,8 +1,7 @@
 //! Types in the list of nodes.
 use crate::marks::Marks;
-use crate::memory::NoMemory;
 use crate::nodes::{Class, Nodes, Role, Span};
-use wy_ast::{Ty, TyKind};
+use wy_ast::{NoMemory, Ty, TyKind};
 use wy_data::Name;
 
 /// Puts a type behind the nodes; the stretch that it takes.

@@ -3,9 +3,8 @@ ghost use Rattle.std.specs.Prelude.{All};
 ghost use Rattle.wy_vc.specs.Told.{IsCond};
 
 use std::alloc::Global;
-use wy_explain_source::NoMemory;
+use wy_explain::{Cond, NoMemory, Terms};
 use wy_search::{Verdict, nothing_carried, search};
-use wy_term::{Cond, Terms};
 
 /// How the search of each condition ends at a budget of leaves, in order. It takes what the searches take.
 pub fn judged(

@@ -1,6 +1,6 @@
 use Rattle.std.proofs.Common.{◌<◌, ◌∙◌, length, refl, rules, arith}
-use Rattle.wy_explain.proofs.SearchLemmas.{cond_at, goal_below, hyps_below, types_below}
-use Rattle.wy_explain.proofs.judged.judged.Goals as goal
+use Rattle.wy_aid.proofs.SearchLemmas.{cond_at, goal_below, hyps_below, types_below}
+use Rattle.wy_aid.proofs.judged.judged.Goals as goal
 
 pub loop-i-init : goal.loop-i-init
 loop-i-init c = record {

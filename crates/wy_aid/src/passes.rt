@@ -1,11 +1,12 @@
 //! The passes from the bytes of a source to its typed and assigned program.
-use crate::faults::{Fault, Pass};
 use std::alloc::Global;
 use wy_assign::AssignFault;
 use wy_assign::typed::assigned;
+use wy_explain::{
+    Checker, Fault, NoMemory, Page, Pass, SourceFault, is_no_memory, offset, put_ty, read, word,
+};
 use wy_flow::{FlowFault, Typed, check};
 use wy_names::{NameFault, resolve};
-use wy_parse_front::{SourceFault, is_no_memory, offset, read, word};
 
 /// Why a source has no such program.
 #[derive(Clone, Copy, Debug)]
@@ -84,4 +85,46 @@ fn of_paths(fault: AssignFault) -> Refused {
         AssignFault::NoReturn(at) => fault_of(Pass::Paths, "NoReturn", at),
         AssignFault::NoMemory => Refused::NoMemory,
     }
+}
+
+/// The passes, asked.
+pub struct Passes;
+
+impl Checker for Passes {
+    fn fault(&self, alloc: Global, bytes: &[u8]) -> Result<Option<Fault>, NoMemory> {
+        match typed_program(alloc, bytes) {
+            Ok(_) => Ok(None),
+            Err(Refused::Fault(fault)) => Ok(Some(fault)),
+            Err(Refused::NoMemory) => Err(NoMemory),
+        }
+    }
+
+    fn type_before(
+        &self,
+        alloc: Global,
+        bytes: &[u8],
+        behind: usize,
+    ) -> Result<Option<Page>, NoMemory> {
+        match typed_program(alloc, bytes) {
+            Ok(typed) => type_of(alloc, &typed, behind),
+            Err(Refused::Fault(_)) => Ok(None),
+            Err(Refused::NoMemory) => Err(NoMemory),
+        }
+    }
+}
+
+// The type of the expression behind which so many others stand.
+fn type_of(alloc: Global, typed: &Typed, behind: usize) -> Result<Option<Page>, NoMemory> {
+    let behind = behind.saturating_add(1);
+    if behind > typed.len() {
+        return Ok(None);
+    }
+    let mut page = Page::new(alloc);
+    put_ty(
+        typed.flow(typed.len() - behind),
+        typed.core(),
+        &mut page,
+        false,
+    )?;
+    Ok(Some(page))
 }

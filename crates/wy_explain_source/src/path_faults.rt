@@ -1,8 +1,6 @@
 //! Faults of paths: a variable that may have no value, a body that may end without a result.
-use crate::seen::Seen;
-use crate::told::{hint, point};
+use crate::{Class, Finding, NoMemory, Node, Page, Role, Seen, Span, hint, point};
 use std::alloc::Global;
-use wy_explain_source::{Class, Finding, NoMemory, Node, Page, Role, Span};
 
 /// What is told of a fault of paths at this place.
 pub fn path_fault(

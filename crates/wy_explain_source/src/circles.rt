@@ -1,7 +1,6 @@
 //! Types that lead back to themselves.
-use crate::seen::Seen;
+use crate::{Class, NoMemory, Page, Seen};
 use std::alloc::Global;
-use wy_explain_source::{Class, NoMemory, Page};
 
 /// The way by which the use of a name in this declaration of a type leads back to that declaration, with no record and no array on
 /// it: the declarations, the first one last too. Nothing where there is no such way.

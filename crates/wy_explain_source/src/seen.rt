@@ -1,7 +1,7 @@
 //! A source with what an explanation looks at.
+use crate::{Class, Marks, NoMemory, Node, Nodes, Role, Source, Span, nodes_of};
 use std::alloc::Global;
 use wy_ast::Program;
-use wy_explain_source::{Class, Marks, NoMemory, Node, Nodes, Role, Source, Span, nodes_of};
 use wy_lex::tokens;
 
 /// A source, its marks, and the nodes of its program; no nodes where it has none.

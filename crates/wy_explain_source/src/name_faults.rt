@@ -1,10 +1,8 @@
 //! Faults of names, calls and sizes.
 use crate::circles::{put_circle, type_circle};
 use crate::nearest::nearest;
-use crate::seen::Seen;
-use crate::told::{hint, point, point_at};
+use crate::{Class, Finding, NoMemory, Node, Page, Role, Seen, Span, hint, point, point_at};
 use std::alloc::Global;
-use wy_explain_source::{Class, Finding, NoMemory, Node, Page, Role, Span};
 
 /// What is told of a fault of names at this place.
 pub fn name_fault(

@@ -2,20 +2,16 @@
 ghost use Rattle.std.specs.Prelude.{All};
 ghost use Rattle.wy_vc.specs.Told.{IsCond};
 
-use crate::conditions::{Owed, finding_of, open_finding};
-use crate::faults::{put_faults, unseen_limit};
 use crate::judged::judged;
-use crate::passes::{Refused, typed_program};
-use crate::seen::Seen;
-use crate::spent::put_spent;
+use crate::passes::{Passes, Refused, typed_program};
 use std::alloc::Global;
-use wy_ast::Program;
-use wy_explain_source::{Finding, NoMemory, Page, Source, put_finding};
+use wy_explain::{
+    Cond, Conds, Finding, NoMemory, OpenCase, Owed, Page, Program, Seen, Source, finding_of,
+    open_finding, put_faults, put_finding, put_spent, read,
+};
 use wy_flow::Typed;
-use wy_parse_front::read;
-use wy_search::Verdict;
-use wy_term::{Cond, Conds};
-use wy_vc::conditions;
+use wy_search::{OpenLeaf, Verdict, Why};
+use wy_vc::{VcFault, conditions};
 
 /// What is asked for.
 #[derive(Clone, Copy, Debug)]
@@ -66,7 +62,7 @@ pub fn explain(
         Err(Refused::NoMemory) => Err(NoMemory),
         Err(Refused::Fault(fault)) => {
             let mut page = Page::new(alloc);
-            put_faults(alloc, &mut page, &seen, fault, asked.all)?;
+            put_faults(alloc, &mut page, &seen, &Passes, fault, asked.all)?;
             Ok(Explained {
                 status: 1,
                 text: page.into_vec(),
@@ -245,7 +241,7 @@ fn put_whole(
 ) -> Result<(), NoMemory> {
     let finding = match verdict {
         Verdict::Found(_) => shown_finding(alloc, owed, number, cond)?,
-        Verdict::Open(leaf) => open_finding(alloc, owed, number, cond, leaf, asked.all)?,
+        Verdict::Open(leaf) => open_finding(alloc, owed, number, cond, case_of(leaf), asked.all)?,
         Verdict::Spent => {
             let mut finding = finding_of(alloc, owed, number, cond, "spent")?;
             put_spent(
@@ -260,6 +256,26 @@ fn put_whole(
         }
     };
     put_finding(page, &owed.seen.source, &finding, asked.all)
+}
+
+// The open case of a leaf.
+fn case_of(leaf: OpenLeaf) -> OpenCase {
+    let OpenLeaf {
+        why,
+        terms,
+        literals,
+        ..
+    } = leaf;
+    let ending = match why {
+        Why::Still => "open still",
+        Why::Crowded => "open crowded",
+        Why::Wide => "open wide",
+    };
+    OpenCase {
+        ending,
+        terms,
+        literals,
+    }
 }
 
 // A condition that the search shows.
@@ -321,4 +337,32 @@ fn put_brief(
         None => {}
     }
     page.text("\n")
+}
+
+// Writes that the program owes too much to be listed.
+fn unseen_limit(
+    alloc: Global,
+    page: &mut Page,
+    seen: &Seen,
+    fault: VcFault,
+) -> Result<(), NoMemory> {
+    let span = seen.mark_at(0);
+    let mut finding = match fault {
+        VcFault::NoMemory => return Err(NoMemory),
+        VcFault::TooManyConds => Finding::new(alloc, "TooManyConds", 0, span),
+        VcFault::TooManyTerms(_) => Finding::new(alloc, "TooManyTerms", 0, span),
+    };
+    match fault {
+        VcFault::TooManyTerms(number) => {
+            finding.message.text("The terms of condition ")?;
+            finding.message.number(u64::from(number))?;
+            finding.message.text(
+                ", or those of all up to it, are too many: a condition has at most 16,384, all together 4,194,304. Divide the function that owes it.",
+            )?;
+        }
+        _ => finding.message.text(
+            "The program owes more than 16,384 conditions. Divide it into sources.",
+        )?,
+    }
+    put_finding(page, &seen.source, &finding, false)
 }

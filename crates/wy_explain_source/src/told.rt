@@ -1,6 +1,6 @@
 //! Findings, put together.
+use crate::{Finding, Label, NoMemory, Page, Span};
 use std::alloc::Global;
-use wy_explain_source::{Finding, Label, NoMemory, Page, Span};
 
 /// Puts another place behind those of a finding, with its sentence.
 pub fn point(finding: &mut Finding, text: Page, span: Span) -> Result<(), NoMemory> {
