@@ -1,5 +1,5 @@
 -- Whole lines of a text: there is one way to take them.
-use Rattle.std.proofs.Common.{◌≡◌, ℕ, zero, suc, ◌+◌, ◌-◌, ◌<◌, ◌≤◌, List, [], ◌∷◌, ◌++◌, length, take, drop, get_or, false, refl, sym, ap, ◌∙◌, subst, arith, add-one}
+use Rattle.std.proofs.Common.{◌≡◌, ℕ, zero, suc, ◌+◌, ◌-◌, ◌<◌, ◌≤◌, List, [], ◌∷◌, ◌++◌, length, take, drop, get_or, false, refl, sym, ap, ◌∙◌, subst, arith, add-one, append_assoc}
 use Rattle.std.specs.Prelude.{not, ◌==◌}
 use Rattle.std.proofs.lemmas.List.{take-append-drop, take_all, length-append}
 use Rattle.wy_data.proofs.wy_lemmas_proofs.Choices.{unlike}
@@ -7,12 +7,6 @@ use Rattle.wy_data.specs.scan.Front.{AllPass}
 use Rattle.wy_data.proofs.scan_lemmas.RunLemmas.{run_same}
 use Rattle.wy_data.proofs.scan_lemmas.FrontLemmas.{pass_more}
 use Rattle.wy_cache_text.specs.Lines.{is_inside, NoLine, IsLineAt, AreInside, lines_text, AreLinesAt, NoLines}
-
--- ---- lists
-
-pub grouped : {X : Type 0} (a b c : List X) → (a ++ b) ++ c ≡ a ++ (b ++ c)
-grouped [] b c = refl
-grouped (x ∷ a) b c = ap (λ (l : List _). x ∷ l) (grouped a b c)
 
 -- ---- the first line
 
@@ -51,7 +45,7 @@ same_lines [] [] r s many a b e = record { lines = refl; rest = e }
 same_lines [] (m ∷ ms) r s many a b e = absurd (omega (arith, many))
 same_lines (l ∷ ls) [] r s many a b e = absurd (omega (arith, many))
 same_lines (l ∷ ls) (m ∷ ms) r s many a b e =
-    let k = run_same is_inside l m (10 ∷ (lines_text ls ++ r)) (10 ∷ (lines_text ms ++ s)) a.0 b.0 refl refl (sym (grouped l (10 ∷ lines_text ls) r) ∙ e ∙ grouped m (10 ∷ lines_text ms) s) in
+    let k = run_same is_inside l m (10 ∷ (lines_text ls ++ r)) (10 ∷ (lines_text ms ++ s)) a.0 b.0 refl refl (sym (append_assoc l (10 ∷ lines_text ls) r) ∙ e ∙ append_assoc m (10 ∷ lines_text ms) s) in
     let others : lines_text ls ++ r ≡ lines_text ms ++ s = let x = k.rest in cc in
     let more = same_lines ls ms r s (omega (arith, many)) a.1 b.1 others in
     record { lines = let x = k.front in let y = more.lines in cc; rest = more.rest }
@@ -70,9 +64,9 @@ one_lot count text f g r s a b =
 -- where no line is left behind fewer lines, there are no more
 none_left : (ls ms : List (List ℕ)) (r s : List ℕ) → length ls < length ms → AreInside ls → AreInside ms → NoLine r → lines_text ls ++ r ≡ lines_text ms ++ s → ⊥
 none_left ls [] r s less a b none e = absurd (omega (arith, less))
-none_left [] (m ∷ ms) r s less a b none e = not_inside m (lines_text ms ++ s) (subst (AllPass is_inside) (e ∙ grouped m (10 ∷ lines_text ms) s) none)
+none_left [] (m ∷ ms) r s less a b none e = not_inside m (lines_text ms ++ s) (subst (AllPass is_inside) (e ∙ append_assoc m (10 ∷ lines_text ms) s) none)
 none_left (l ∷ ls) (m ∷ ms) r s less a b none e =
-    let k = run_same is_inside l m (10 ∷ (lines_text ls ++ r)) (10 ∷ (lines_text ms ++ s)) a.0 b.0 refl refl (sym (grouped l (10 ∷ lines_text ls) r) ∙ e ∙ grouped m (10 ∷ lines_text ms) s) in
+    let k = run_same is_inside l m (10 ∷ (lines_text ls ++ r)) (10 ∷ (lines_text ms ++ s)) a.0 b.0 refl refl (sym (append_assoc l (10 ∷ lines_text ls) r) ∙ e ∙ append_assoc m (10 ∷ lines_text ms) s) in
     let others : lines_text ls ++ r ≡ lines_text ms ++ s = let x = k.rest in cc in
     none_left ls ms r s (omega (arith, less)) a.1 b.1 none others
 
@@ -89,7 +83,7 @@ inside_more (k ∷ ls) l a b = (a.0, inside_more ls l a.1 b)
 
 text_more : (ls : List (List ℕ)) (l : List ℕ) → lines_text (ls ++ l ∷ []) ≡ lines_text ls ++ (l ++ 10 ∷ [])
 text_more [] l = refl
-text_more (k ∷ ls) l = ap (λ (i : List ℕ). k ++ 10 ∷ i) (text_more ls l) ∙ sym (grouped k (10 ∷ lines_text ls) (l ++ 10 ∷ []))
+text_more (k ∷ ls) l = ap (λ (i : List ℕ). k ++ 10 ∷ i) (text_more ls l) ∙ sym (append_assoc k (10 ∷ lines_text ls) (l ++ 10 ∷ []))
 
 -- the lines so far: what they are is left open
 pub record SoFar (done : ℕ) (text rest : List ℕ) : Type 0 where
@@ -112,7 +106,7 @@ one_line_more done text rest more so_far here =
           many = length-append lines.lines (here.line ∷ []) ∙ ap (λ (n : ℕ). n + 1) lines.many;
           is = ap (λ (i : List ℕ). i ++ (here.line ++ 10 ∷ [])) lines.is ∙ sym (text_more lines.lines here.line);
         };
-        is = so_far.lines.is ∙ ap (λ (i : List ℕ). front ++ i) (here.is ∙ sym (grouped here.line (10 ∷ []) more)) ∙ sym (grouped front (here.line ++ 10 ∷ []) more);
+        is = so_far.lines.is ∙ ap (λ (i : List ℕ). front ++ i) (here.is ∙ sym (append_assoc here.line (10 ∷ []) more)) ∙ sym (append_assoc front (here.line ++ 10 ∷ []) more);
       };
     }
 

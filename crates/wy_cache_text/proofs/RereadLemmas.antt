@@ -1,12 +1,11 @@
 -- What is written is read again.
-use Rattle.std.proofs.Common.{◌≡◌, ℕ, ◌+◌, ◌<◌, ◌≤◌, List, [], ◌∷◌, ◌++◌, Bool, true, false, cond, codes, length, map, refl, sym, ap, subst, ◌∙◌, arith}
+use Rattle.std.proofs.Common.{◌≡◌, ℕ, ◌+◌, ◌<◌, ◌≤◌, List, [], ◌∷◌, ◌++◌, Bool, true, false, cond, codes, length, map, refl, sym, ap, subst, ◌∙◌, arith, append_assoc}
 use Rattle.std.specs.Fmt.{decimal}
 use Rattle.std.proofs.lemmas.List.{length-append}
 use Rattle.wy_cache_text.specs.Lines.{lines_text, AreLines}
 use Rattle.wy_cache_text.specs.Files.{most, IsEntryAt, IsBody, file}
 use Rattle.wy_cache_text.specs.Written.{Row, row_text, rows_text, is_among, once_behind, IsLongest}
 use Rattle.wy_cache_text.specs.Reread.{IsWritable, AreWritable, held_row, ReadsWhatIsWritten}
-use Rattle.wy_cache_text.proofs.LineLemmas.{grouped}
 
 -- ---- those that are written are among those that were given
 
@@ -44,9 +43,9 @@ row_long r =
 spread : (r : Row) (rest : List ℕ) → row_text r ++ rest ≡ codes "for " ++ (decimal r.hypotheses ++ 10 ∷ (r.key ++ (codes "by " ++ (decimal r.number ++ 10 ∷ (r.steps ++ rest)))))
 spread r rest =
     let by : List ℕ = codes "by " ++ (decimal r.number ++ 10 ∷ r.steps) in
-    let last : by ++ rest ≡ codes "by " ++ (decimal r.number ++ 10 ∷ (r.steps ++ rest)) = ap (λ (i : List ℕ). codes "by " ++ i) (grouped (decimal r.number) (10 ∷ r.steps) rest) in
+    let last : by ++ rest ≡ codes "by " ++ (decimal r.number ++ 10 ∷ (r.steps ++ rest)) = ap (λ (i : List ℕ). codes "by " ++ i) (append_assoc (decimal r.number) (10 ∷ r.steps) rest) in
     ap (λ (i : List ℕ). codes "for " ++ i)
-    (grouped (decimal r.hypotheses) (10 ∷ (r.key ++ by)) rest ∙ ap (λ (i : List ℕ). decimal r.hypotheses ++ 10 ∷ i) (grouped r.key by rest ∙ ap (λ (i : List ℕ). r.key ++ i) last))
+    (append_assoc (decimal r.hypotheses) (10 ∷ (r.key ++ by)) rest ∙ ap (λ (i : List ℕ). decimal r.hypotheses ++ 10 ∷ i) (append_assoc r.key by rest ∙ ap (λ (i : List ℕ). r.key ++ i) last))
 
 entry_of : (r : Row) (text rest : List ℕ) → IsWritable r → length (row_text r) ≤ most → text ≡ row_text r ++ rest → IsEntryAt text (held_row r) rest
 entry_of r text rest h short is =
@@ -70,7 +69,7 @@ body_of : (rows : List Row) → AreWritable rows → length (rows_text rows) ≤
 body_of [] all short = refl
 body_of (r ∷ rs) all short =
     let parts = length-append (row_text r) (rows_text rs) in
-    (rows_text rs ++ codes "end\n", entry_of r (rows_text (r ∷ rs) ++ codes "end\n") (rows_text rs ++ codes "end\n") all.0 (omega (arith, parts, short)) (grouped (row_text r) (rows_text rs) (codes "end\n")), body_of rs all.1 (omega (arith, parts, short)))
+    (rows_text rs ++ codes "end\n", entry_of r (rows_text (r ∷ rs) ++ codes "end\n") (rows_text rs ++ codes "end\n") all.0 (omega (arith, parts, short)) (append_assoc (row_text r) (rows_text rs) (codes "end\n")), body_of rs all.1 (omega (arith, parts, short)))
 
 pub reads_what_is_written : ReadsWhatIsWritten
 reads_what_is_written rows bytes all written =

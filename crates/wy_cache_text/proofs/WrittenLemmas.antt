@@ -1,5 +1,5 @@
 -- The file that is written, entry by entry.
-use Rattle.std.proofs.Common.{◌≡◌, ◌⊎◌, inl, inr, ℕ, ◌+◌, ◌<◌, ◌≤◌, List, [], ◌∷◌, ◌++◌, Bool, true, false, cond, codes, length, bytes_eq, refl, sym, ap, subst, ◌∙◌, ⊎_elim, arith}
+use Rattle.std.proofs.Common.{◌≡◌, ◌⊎◌, inl, inr, ℕ, ◌+◌, ◌<◌, ◌≤◌, List, [], ◌∷◌, ◌++◌, Bool, true, false, cond, codes, length, bytes_eq, refl, sym, ap, subst, ◌∙◌, ⊎_elim, arith, append_assoc}
 use Rattle.std.specs.Prelude.{◌||◌}
 use Rattle.std.specs.Cmp.Lexicographic.{bytes_decides, nat_list_eq_equiv}
 use Rattle.std.specs.HashSet.{HashSet, UpdatesBy, contains_by}
@@ -13,7 +13,6 @@ use Rattle.wy_data.proofs.wy_lemmas_proofs.Lists.{none_behind}
 use Rattle.wy_cache_text.specs.declared.writer.Writer.{Writer}
 use Rattle.wy_cache_text.specs.Written.{Row, row_text, rows_text, file_text, is_among, once_behind, once, limit, IsLongest}
 use Rattle.wy_cache_text.specs.SoFar.{has_key, IsSoFar}
-use Rattle.wy_cache_text.proofs.LineLemmas.{grouped}
 
 -- ---- sets of keys
 
@@ -80,16 +79,16 @@ has_more (x ∷ xs) r q = ap (λ b. bytes_eq x.key q || b) (has_more xs r q) ∙
 
 rows_more : (rows : List Row) (r : Row) → rows_text (rows ++ r ∷ []) ≡ rows_text rows ++ row_text r
 rows_more [] r = none_behind (row_text r)
-rows_more (x ∷ xs) r = ap (λ (i : List ℕ). row_text x ++ i) (rows_more xs r) ∙ sym (grouped (row_text x) (rows_text xs) (row_text r))
+rows_more (x ∷ xs) r = ap (λ (i : List ℕ). row_text x ++ i) (rows_more xs r) ∙ sym (append_assoc (row_text x) (rows_text xs) (row_text r))
 
 -- an entry as it is written piece by piece
 pub row_pieces : (h key n steps first second text : List ℕ) → first ≡ codes "for " ++ (h ++ codes "\n") → second ≡ codes "by " ++ (n ++ codes "\n") → text ≡ ((first ++ key) ++ second) ++ steps
     → text ≡ codes "for " ++ (h ++ 10 ∷ (key ++ (codes "by " ++ (n ++ 10 ∷ steps))))
 row_pieces h key n steps first second text is_first is_second is =
     let left : first ++ (key ++ (second ++ steps)) ≡ codes "for " ++ (h ++ 10 ∷ (key ++ (second ++ steps)))
-    = ap (λ (i : List ℕ). i ++ (key ++ (second ++ steps))) is_first ∙ ap (λ (i : List ℕ). codes "for " ++ i) (grouped h (codes "\n") (key ++ (second ++ steps))) in
-    let right : second ++ steps ≡ codes "by " ++ (n ++ 10 ∷ steps) = ap (λ (i : List ℕ). i ++ steps) is_second ∙ ap (λ (i : List ℕ). codes "by " ++ i) (grouped n (codes "\n") steps) in
-    is ∙ grouped (first ++ key) second steps ∙ grouped first key (second ++ steps) ∙ left ∙ ap (λ (i : List ℕ). codes "for " ++ (h ++ 10 ∷ (key ++ i))) right
+    = ap (λ (i : List ℕ). i ++ (key ++ (second ++ steps))) is_first ∙ ap (λ (i : List ℕ). codes "for " ++ i) (append_assoc h (codes "\n") (key ++ (second ++ steps))) in
+    let right : second ++ steps ≡ codes "by " ++ (n ++ 10 ∷ steps) = ap (λ (i : List ℕ). i ++ steps) is_second ∙ ap (λ (i : List ℕ). codes "by " ++ i) (append_assoc n (codes "\n") steps) in
+    is ∙ append_assoc (first ++ key) second steps ∙ append_assoc first key (second ++ steps) ∙ left ∙ ap (λ (i : List ℕ). codes "for " ++ (h ++ 10 ∷ (key ++ i))) right
 
 -- ---- the writer
 
@@ -112,7 +111,7 @@ put_behind rows r w is h =
     record {
       front = h.front;
       behind = h.behind ++ last;
-      all = once_more rows r ∙ ap (λ (l : List Row). l ++ last) h.all ∙ grouped h.front h.behind last;
+      all = once_more rows r ∙ ap (λ (l : List Row). l ++ last) h.all ∙ append_assoc h.front h.behind last;
       out = h.out;
       fits = h.fits;
       full = λ t. record { first = f.first; others = f.others ++ last; is = ap (λ (l : List Row). l ++ last) f.is; long = f.long };

@@ -17,13 +17,9 @@ use Rattle.wy_headline.proofs.StepLemmas.{Refuses, by_status, file_refused, no_e
 abbrev pub Apart : Answer → Type 0
 Apart a = a.status ≢ 13
 
-status_of : Answer → ℕ
-status_of a = a.status
-
 -- an answer with another status
 pub other : (n : ℕ) (a b : Answer) → a ≡ b → b.status ≡ n → n ≢ 13 → Apart a
-unfolding status_of
-other n a b is of apart e = absurd (apart (sym of ∙ (sym (ap status_of is) ∙ e)))
+other n a b is of apart e = absurd (apart (sym of ∙ (sym (ap (λ (x : Answer). x.status) is) ∙ e)))
 
 pub no_0 : ◌≢◌ {A = ℕ} 0 13
 no_0 e = omega (arith, e)

@@ -72,12 +72,8 @@ no_9 e = omega (arith, e)
 no_10 : ◌≢◌ {A = ℕ} 10 12
 no_10 e = omega (arith, e)
 
-status_of : Answer → ℕ
-status_of a = a.status
-
 other_as : (n : ℕ) (a b : Answer) → a ≡ b → b.status ≡ n → n ≢ 12 → Other a
-unfolding status_of
-other_as n a b is of apart e = apart (sym of ∙ (sym (ap status_of is) ∙ e))
+other_as n a b is of apart e = apart (sym of ∙ (sym (ap (λ (x : Answer). x.status) is) ∙ e))
 
 faulted_other : {F : Type 0} (faults : OfFaults F) (there : F → Type 0) → ((f : F) → faults.status f ≢ 12) → (a : Answer) → IsFaulted faults there a → Other a
 faulted_other faults there apart a h = other_as (faults.status h.fault) a _ h.answer refl (apart h.fault)

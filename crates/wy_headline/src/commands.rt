@@ -26,37 +26,53 @@ pub fn run_words<R: Threads + Sync, F: Files, O: Sink, E: Sink>(
 ) -> u8
     // What words, files and sinks show, with the steps of the code.
     ensures comes { Comes (words_in words.now)
-        (setting (F.told files.old) (F.load_faults files.old) (F.load_faults files.new) (F.misses files.old) (F.misses files.new))
-        (saving (F.told files.old (saved_name (command_of (words_in words.now)))) (F.told files.new (saved_name (command_of (words_in words.now)))) (F.save_faults files.old) (F.save_faults files.new))
+        (setting (F.told files.old) (F.load_faults files.old) (F.load_faults files.new)
+        (F.misses files.old) (F.misses files.new))
+        (saving (F.told files.old (saved_name (command_of (words_in words.now))))
+        (F.told files.new (saved_name (command_of (words_in words.now))))
+        (F.save_faults files.old) (F.save_faults files.new))
         result
-        (sinks (O.taken out.old) (O.taken out.new) (O.faults out.old) (O.faults out.new) (E.taken err.old) (E.taken err.new) (E.faults err.old) (E.faults err.new)) }
+        (sinks (O.taken out.old) (O.taken out.new) (O.faults out.old) (O.faults out.new)
+        (E.taken err.old) (E.taken err.new) (E.faults err.old) (E.faults err.new)) }
 
     // The headline: a program is accepted exactly where it is typed and assigned and its conditions have
     // certificates, a run starts exactly where the arguments meet, it never faults, and does what the value semantics
     // says, and its contract holds. A fault that a probe tells is one of the value semantics, and never of an
     // accepted program. Status 13 comes of `prove` alone.
     ensures means { Means (words_in words.now)
-        (setting (F.told files.old) (F.load_faults files.old) (F.load_faults files.new) (F.misses files.old) (F.misses files.new))
+        (setting (F.told files.old) (F.load_faults files.old) (F.load_faults files.new)
+        (F.misses files.old) (F.misses files.new))
         result
-        (sinks (O.taken out.old) (O.taken out.new) (O.faults out.old) (O.faults out.new) (E.taken err.old) (E.taken err.new) (E.faults err.old) (E.faults err.new)) }
+        (sinks (O.taken out.old) (O.taken out.new) (O.faults out.old) (O.faults out.new)
+        (E.taken err.old) (E.taken err.new) (E.faults err.old) (E.faults err.new)) }
 
     // Where no count of faults rose, what the words ask for is done, its status and its bytes whole, or memory ran
     // out (9). A run of a program that is done within its steps has status 0 then.
     ensures complete { IsComplete (words_in words.now)
-        (setting (F.told files.old) (F.load_faults files.old) (F.load_faults files.new) (F.misses files.old) (F.misses files.new))
-        (saving (F.told files.old (saved_name (command_of (words_in words.now)))) (F.told files.new (saved_name (command_of (words_in words.now)))) (F.save_faults files.old) (F.save_faults files.new))
+        (setting (F.told files.old) (F.load_faults files.old) (F.load_faults files.new)
+        (F.misses files.old) (F.misses files.new))
+        (saving (F.told files.old (saved_name (command_of (words_in words.now))))
+        (F.told files.new (saved_name (command_of (words_in words.now))))
+        (F.save_faults files.old) (F.save_faults files.new))
         result
-        (sinks (O.taken out.old) (O.taken out.new) (O.faults out.old) (O.faults out.new) (E.taken err.old) (E.taken err.new) (E.faults err.old) (E.faults err.new)) }
+        (sinks (O.taken out.old) (O.taken out.new) (O.faults out.old) (O.faults out.new)
+        (E.taken err.old) (E.taken err.new) (E.faults err.old) (E.faults err.new)) }
 
     // What comes is what may come for any other words that ask for the same, by however many workers.
-    ensures workers { (others : List (List ℕ)) → command_of others ≡ command_of (words_in words.now) → Comes others
-        (setting (F.told files.old) (F.load_faults files.old) (F.load_faults files.new) (F.misses files.old) (F.misses files.new))
-        (saving (F.told files.old (saved_name (command_of (words_in words.now)))) (F.told files.new (saved_name (command_of (words_in words.now)))) (F.save_faults files.old) (F.save_faults files.new))
+    ensures workers { (others : List (List ℕ)) → command_of others ≡ command_of (words_in words.now)
+        → Comes others
+        (setting (F.told files.old) (F.load_faults files.old) (F.load_faults files.new)
+        (F.misses files.old) (F.misses files.new))
+        (saving (F.told files.old (saved_name (command_of (words_in words.now))))
+        (F.told files.new (saved_name (command_of (words_in words.now))))
+        (F.save_faults files.old) (F.save_faults files.new))
         result
-        (sinks (O.taken out.old) (O.taken out.new) (O.faults out.old) (O.faults out.new) (E.taken err.old) (E.taken err.new) (E.faults err.old) (E.faults err.new)) }
+        (sinks (O.taken out.old) (O.taken out.new) (O.faults out.old) (O.faults out.new)
+        (E.taken err.old) (E.taken err.new) (E.faults err.old) (E.faults err.new)) }
 
     // No file is changed but the one that `prove` saves.
-    ensures kept { (other : List ℕ) → IsKeptBy (command_of (words_in words.now)) other → F.told files.new other ≡ F.told files.old other }
+    ensures kept { (other : List ℕ) → IsKeptBy (command_of (words_in words.now)) other
+        → F.told files.new other ≡ F.told files.old other }
 {
     wy_top::run_words(rt, alloc, words, files, out, err)
 }

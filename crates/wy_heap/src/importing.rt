@@ -21,8 +21,8 @@ use crate::part::{Part, Place};
 use crate::table::shape_number;
 use std::alloc::AllocError;
 use wy_data::Name;
-use wy_value::Value;
 use wy_items::NoMemory;
+use wy_value::Value;
 
 impl Heap {
     /// A place for a value from outside, in which each array and each record is a new node with one

@@ -20,3 +20,4 @@ pub use law::{imports_are_as_shown, what_is_taken_imports_nothing};
 pub use loading::{MOST_FILES, Sources, load_program};
 pub use wy_parse_front::lines::Lines;
 pub use wy_parse_front::{Place, locate};
+pub use wy_top_answers;

@@ -11,3 +11,4 @@ pub mod sound
 pub use Rattle.wy_eval_exprs.specs as wy_eval_exprs
 pub use Rattle.wy_mach.specs as wy_mach
 pub use Rattle.wy_value.specs as wy_value
+pub use Rattle.wy_flow_spec.specs as wy_flow_spec

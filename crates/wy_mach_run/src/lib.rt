@@ -31,3 +31,4 @@ pub use parts::Start;
 pub use running::run_start;
 pub use running_laws::starts_can_run;
 pub use starting::start;
+pub use wy_flow_spec;

@@ -4,10 +4,9 @@ ghost use Rattle.wy_print.specs.ExprText.{expr_texts};
 ghost use Rattle.wy_print.specs.StmtText as spec;
 
 use crate::expressions::write_expr;
-use wy_ast::NoMemory;
 use crate::pieces::write_bytes;
 use std::alloc::Global;
-use wy_ast::Expr;
+use wy_ast::{Expr, NoMemory};
 
 /// Appends the clauses, each behind a line end, the margin and the word.
 #[tactic(auto, using(std::proofs::lemmas::List::append_assoc))]

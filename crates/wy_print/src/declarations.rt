@@ -5,12 +5,11 @@ ghost use Rattle.wy_print.specs.ProgramText as spec;
 ghost use Rattle.wy_print.specs.StmtText.{where_lines};
 
 use crate::clauses::{write_clauses, write_where};
-use wy_ast::NoMemory;
 use crate::pieces::{write_bytes, write_name};
 use crate::statements::write_block;
 use crate::types::{write_ty, write_typed};
 use std::alloc::Global;
-use wy_ast::{Alias, Decl, Expr, Function, Method, Param, Property, Ty};
+use wy_ast::{Alias, Decl, Expr, Function, Method, NoMemory, Param, Property, Ty};
 use wy_data::Name;
 
 /// The margin of a declaration.

@@ -4,7 +4,6 @@ ghost use Rattle.wy_print.specs.Pieces.{listed};
 ghost use Rattle.wy_print.specs.ExprText as spec;
 
 use crate::edges::{bracketed_begins, bracketed_ends, is_below, level};
-use wy_ast::NoMemory;
 use crate::levels::{POSTFIX, SUM, UNARY, needs_left, needs_right, symbol};
 use crate::pieces::{
     quantifier_word, truth_word, write_bytes, write_name, write_number, write_quoted,
@@ -12,7 +11,7 @@ use crate::pieces::{
 };
 use crate::types::write_ty;
 use std::alloc::Global;
-use wy_ast::{Expr, ExprKind, Op};
+use wy_ast::{Expr, ExprKind, NoMemory, Op};
 use wy_data::Name;
 
 /// Appends the expression, with no bracket that isn't needed.

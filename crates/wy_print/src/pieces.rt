@@ -3,8 +3,8 @@ ghost use Rattle.std.specs.Prelude.{◌≡◌, ◌++◌, ◌∷◌, [], codes, I
 ghost use Rattle.std.specs.Fmt.{signed_decimal};
 ghost use Rattle.wy_print.specs.Pieces as pieces;
 
-use wy_ast::NoMemory;
 use std::alloc::Global;
+use wy_ast::NoMemory;
 use wy_data::Name;
 
 /// Appends the bytes.

@@ -3,10 +3,9 @@ ghost use Rattle.std.specs.Prelude.{◌≡◌, ◌++◌, OnOk, IfOk};
 ghost use Rattle.wy_print.specs.ProgramText as spec;
 
 use crate::declarations::write_decl;
-use wy_ast::NoMemory;
 use crate::pieces::{write_bytes, write_name};
 use std::alloc::Global;
-use wy_ast::{Decl, Program};
+use wy_ast::{Decl, NoMemory, Program};
 use wy_data::Name;
 
 /// The text of the program.

@@ -10,11 +10,10 @@ ghost use Rattle.wy_print.specs.TypeText as types;
 
 use crate::clauses::write_where;
 use crate::expressions::{write_expr, write_exprs, write_range};
-use wy_ast::NoMemory;
 use crate::pieces::{deeper, write_bytes, write_name};
 use crate::types::write_typed;
 use std::alloc::Global;
-use wy_ast::{Case, Expr, Step, StepKind, Stmt, StmtKind, Ty};
+use wy_ast::{Case, Expr, NoMemory, Step, StepKind, Stmt, StmtKind, Ty};
 use wy_data::Name;
 
 // Appends the statement behind its margin.

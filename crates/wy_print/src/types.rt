@@ -3,9 +3,8 @@ ghost use Rattle.std.specs.Prelude.{◌≡◌, ◌++◌, codes, OnOk};
 ghost use Rattle.wy_print.specs.Pieces.{listed};
 ghost use Rattle.wy_print.specs.TypeText as spec;
 
-use wy_ast::NoMemory;
 use crate::pieces::{write_bytes, write_name};
-use wy_ast::{Ty, TyKind};
+use wy_ast::{NoMemory, Ty, TyKind};
 use wy_data::Name;
 
 /// `a|b`

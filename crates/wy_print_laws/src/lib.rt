@@ -5,3 +5,5 @@
 
 pub mod round;
 pub mod spelled_types;
+
+pub use wy_parse_front;

@@ -5,11 +5,11 @@ ghost use Rattle.wy_term.specs.Nodes.{tree_at, node_at as plain_at};
 ghost use Rattle.wy_term.specs.Numbers.{IsAt, Keeps};
 ghost use Rattle.wy_term.specs.Copying.{AreCopied, Looked};
 
-use wy_value::NoMemory;
 use crate::parts::{parts_of, with_parts};
 use crate::terms::Terms;
 use std::alloc::Global;
 use std::collections::HashMap;
+use wy_value::NoMemory;
 
 /// Nothing is made yet.
 pub fn nothing_made(alloc: Global) -> HashMap<u32, u32>

@@ -7,11 +7,10 @@ ghost use Rattle.wy_term.specs.Same.{same_kind, same_names};
 ghost use Rattle.wy_term.specs.Rewriting.{as_number, as_int, as_bool, as_array, as_denied, as_record, as_constant, is_true, is_false, is_truth, on_one, on_two, number_or, decided, fold_num, fold_len, fold_get, fold_field, fold_kind, kind_given, fold_at_most, fold_equal, fold_bool, fold_not, fold_and, fold_or, has_true, has_false, without_true, without_false, part_at, field_part, rewritten};
 ghost use Rattle.wy_term.specs.FoldingView.{folded_to, IsFoldedBelow, constant_of};
 
-use wy_value::NoMemory;
 use crate::node::{Kind, Node};
 use crate::terms::Terms;
 use std::alloc::Global;
-use wy_value::Name;
+use wy_value::{Name, NoMemory};
 
 /// What a node is folded to.
 #[derive(Drop)]

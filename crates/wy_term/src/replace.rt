@@ -10,12 +10,12 @@ ghost use Rattle.wy_term.specs.ReplacingView.{seen_pairs, AreBelow, image_at, Ar
 
 use crate::copy::{image_of, looked_up, note, nothing_made};
 use crate::fold::{Folded, conjunction, disjunction, number_at};
-use wy_value::NoMemory;
 use crate::node::{Node, Quantifier};
 use crate::parts::{parts_of, with_parts};
 use crate::terms::Terms;
 use std::alloc::Global;
 use std::collections::HashMap;
+use wy_value::NoMemory;
 
 /// How many quantifiers over short ranges, or that hide a name, are gone into one in another. Beyond it, memory is
 /// taken to be spent.

@@ -8,12 +8,12 @@ ghost use Rattle.wy_term.specs.Numbers.{IsAt, Keeps};
 
 use crate::copy::copied;
 use crate::fold::{Folded, fold};
-use wy_value::NoMemory;
 use crate::node::Node;
 use crate::replace::made;
 use indexmap::IndexSet;
 use std::alloc::Global;
 use std::marker::Model;
+use wy_value::NoMemory;
 
 /// Terms and formulas by number, each made of earlier ones. A contract sees the list of its nodes, and by `tree_at` the
 /// tree that a number names. Two different numbers name different trees.

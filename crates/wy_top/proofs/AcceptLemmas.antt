@@ -3,17 +3,17 @@ use Rattle.std.proofs.Common.{◌≡◌, ◌∙◌, ℕ, List, map, true, false,
 use Rattle.wy_cert.specs.Steps.{Certificates}
 use Rattle.wy_lemmas.proofs.Choices.{true_false as never_both}
 use Rattle.wy_top.specs.Refusals.{invalid_lines}
-use Rattle.wy_top_answers.specs.wy_vc_laws.shown.Certified.{AreFormed, AllHold}
-use Rattle.wy_top_answers.specs.wy_vc_laws.shown.ReadSorted.{AreSortedCertificates}
+use Rattle.wy_top_probe.specs.wy_top_answers.wy_vc_laws.shown.Certified.{AreFormed, AllHold}
+use Rattle.wy_top_probe.specs.wy_top_answers.wy_vc_laws.shown.ReadSorted.{AreSortedCertificates}
 use Rattle.wy_batch.specs.Known.{Known}
 use Rattle.wy_batch.specs.Seen.{known}
 use Rattle.wy_batch.specs.declared.verdict.Verdict.{Verdict}
 use Rattle.wy_batch.proofs.OneLemmas.{one_list}
 use Rattle.wy_top.proofs.ShownLemmas.{closed_is_true}
-use Rattle.wy_top_answers.specs.Answers.{refused, IsRefusal}
-use Rattle.wy_top_answers.specs.Steps.{Setting, Came, Gives, due}
-use Rattle.wy_top_answers.specs.declared.answer.Answer.{Answer}
-use Rattle.wy_top_answers.proofs.StepLemmas.{value_gives, refusal_gives}
+use Rattle.wy_top_probe.specs.wy_top_answers.Answers.{refused, IsRefusal}
+use Rattle.wy_top_probe.specs.wy_top_answers.Steps.{Setting, Came, Gives, due}
+use Rattle.wy_top_probe.specs.wy_top_answers.declared.answer.Answer.{Answer}
+use Rattle.wy_top_probe.proofs.wy_top_answers_proofs.StepLemmas.{value_gives, refusal_gives}
 use Rattle.wy_top.specs.Acceptance.{Acceptance, AreVerdicts, accepts, are_closed, unproved_lines}
 use Rattle.wy_top.specs.Programs.{Program, conditions_of}
 

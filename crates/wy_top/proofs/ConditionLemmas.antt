@@ -3,7 +3,7 @@ use Rattle.std.proofs.Common.{◌≡◌, ◌∙◌, ◌<◌, ◌≤◌, ℕ, Lis
 use Rattle.std.proofs.lemmas.List.{length-map}
 use Rattle.std.proofs.lemmas.List.Elements.{All-cons, All-nil, All-weaker}
 use Rattle.wy_batch.specs.wy_check.Within.{IsWithin}
-use Rattle.wy_top_answers.proofs.wy_vc_laws_proofs.shown_lemmas.TruthLemmas.{premises_met}
+use Rattle.wy_top_probe.proofs.wy_top_answers_proofs.wy_vc_laws_proofs.shown_lemmas.TruthLemmas.{premises_met}
 use Rattle.wy_vc.specs.wy_vc_spec.Limits as limits
 use Rattle.wy_vc.specs.wy_vc_spec.Numbered.{Node, numbered_core}
 use Rattle.wy_vc.specs.wy_vc_spec.Owed.{Owed}
@@ -11,11 +11,11 @@ use Rattle.wy_vc.specs.wy_vc_spec.Programs.{conditions_of, setting_of}
 use Rattle.wy_vc.specs.wy_vc_spec.Values.{Setting}
 use Rattle.wy_core.specs.CoreTree.{Core}
 use Rattle.wy_core.specs.Types.{Ty}
-use Rattle.wy_top_answers.specs.wy_sound_terms.formed.OwedConditions.{owed_conditions, with_types}
+use Rattle.wy_top_probe.specs.wy_top_answers.wy_sound_terms.formed.OwedConditions.{owed_conditions, with_types}
 use Rattle.wy_prove.specs.Answers.{IsFormedThroughout}
 use Rattle.wy_prove.specs.wy_search_laws.rounds.Leaves.{AreFoldedFormulas, IsFoldedCondition}
-use Rattle.wy_top_answers.specs.wy_vc_laws.folded.FoldedConditions.{AllFolded, AreFoldedThroughout, IsFoldedThroughout}
-use Rattle.wy_top_answers.specs.wy_vc_laws.shown.Certified.{AreFormed}
+use Rattle.wy_top_probe.specs.wy_top_answers.wy_vc_laws.folded.FoldedConditions.{AllFolded, AreFoldedThroughout, IsFoldedThroughout}
+use Rattle.wy_top_probe.specs.wy_top_answers.wy_vc_laws.shown.Certified.{AreFormed}
 use Rattle.wy_term.specs.Condition.{Condition, condition_of}
 use Rattle.wy_term.specs.Nodes.{Plain}
 use Rattle.wy_term.specs.Term.{Term}

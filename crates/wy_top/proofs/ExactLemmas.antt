@@ -1,8 +1,8 @@
 -- Why nothing else comes than what is due.
 use Rattle.std.proofs.Common.{◌≡◌, ◌⊎◌, ℕ, List, Bool, Ok, Err, inl, inr, sym, ap, subst}
-use Rattle.wy_top_answers.specs.Showing.{ShowsWhole, Shown, Sinks}
-use Rattle.wy_top_answers.specs.Steps.{Came, EndsFree, IsFree, IsOutside, Sense, Setting, answer_in, failed, from_outside, memory, uncertified}
-use Rattle.wy_top_answers.specs.declared.answer.Answer.{Answer}
+use Rattle.wy_top_probe.specs.wy_top_answers.Showing.{ShowsWhole, Shown, Sinks}
+use Rattle.wy_top_probe.specs.wy_top_answers.Steps.{Came, EndsFree, IsFree, IsOutside, Sense, Setting, answer_in, failed, from_outside, memory, uncertified}
+use Rattle.wy_top_probe.specs.wy_top_answers.declared.answer.Answer.{Answer}
 use Rattle.wy_top_words.specs.CommandLine.{check, run, prove, conds, fmt, dis, big, probe}
 use Rattle.wy_top.specs.Exact.{AnswersExactly, DoesExactly, IsElse, ShowsDue}
 use Rattle.wy_top.specs.Saves.{Saves, Saving, whole, failed as save_failed, no_memory as save_lacks_memory}

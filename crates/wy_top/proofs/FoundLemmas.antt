@@ -8,10 +8,10 @@ use Rattle.wy_prove.specs.wy_prove_writable.Writable.{AreWritable}
 use Rattle.wy_cert.specs.Steps.{Certificates, NamesItsTerms, NameTheirTerms, Written, certificates_of, steps_of}
 use Rattle.wy_cert.specs.declared.step.Cert.{Cert}
 use Rattle.wy_cert.specs.declared.step.Certs.{Certs}
-use Rattle.wy_top_answers.specs.wy_check_laws.sound.Sortedness.{AreSortedSteps}
+use Rattle.wy_top_probe.specs.wy_top_answers.wy_check_laws.sound.Sortedness.{AreSortedSteps}
 use Rattle.wy_term.specs.Condition.{Condition}
 use Rattle.wy_term.specs.declared.cond.Cond.{Cond}
-use Rattle.wy_top_answers.specs.wy_check_spec.valid.Validity.{IsValid}
+use Rattle.wy_top_probe.specs.wy_top_answers.wy_check_spec.valid.Validity.{IsValid}
 use Rattle.wy_prove.specs.Answers.{AnswersWhatIsFound, HasUnwritable, IsFormedThroughout}
 use Rattle.wy_prove.specs.wy_search_spec.Tree as search
 use Rattle.wy_top.specs.Found.{AreFor, Begin, IsMore, IsOneMore, IsOwn, LacksOne}

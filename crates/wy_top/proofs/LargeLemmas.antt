@@ -1,16 +1,16 @@
 -- The steps of `big`.
 use Rattle.std.proofs.Common.{◌≡◌, ◌≤◌, ◌<◌, ◌∙◌, ◌++◌, ℕ, List, [], length, Option, Some, None, Ok, Err, inl, inr, arith, refl, sym, ap, subst}
-use Rattle.wy_top_answers.specs.Answers.{refused, written as writes, no_memory, IsRefusal}
-use Rattle.wy_top_answers.specs.Loading.{source_limit}
-use Rattle.wy_top_answers.specs.Steps.{Setting, Came, Gives, Answers}
-use Rattle.wy_top_answers.specs.Texts.{of_file}
-use Rattle.wy_top_answers.specs.declared.answer.Answer.{Answer}
-use Rattle.wy_top_answers.proofs.StepLemmas.{value_gives, refusal_gives}
-use Rattle.wy_top_answers.proofs.AnswerLemmas.{last_answers, memory_answers}
+use Rattle.wy_top_probe.specs.wy_top_answers.Answers.{refused, written as writes, no_memory, IsRefusal}
+use Rattle.wy_top_probe.specs.wy_top_answers.Loading.{source_limit}
+use Rattle.wy_top_probe.specs.wy_top_answers.Steps.{Setting, Came, Gives, Answers}
+use Rattle.wy_top_probe.specs.wy_top_answers.Texts.{of_file}
+use Rattle.wy_top_probe.specs.wy_top_answers.declared.answer.Answer.{Answer}
+use Rattle.wy_top_probe.proofs.wy_top_answers_proofs.StepLemmas.{value_gives, refusal_gives}
+use Rattle.wy_top_probe.proofs.wy_top_answers_proofs.AnswerLemmas.{last_answers, memory_answers}
 use Rattle.wy_top_big.specs.Source.{source_of}
 use Rattle.wy_lemmas.proofs.Lists.{same_bytes}
 use Rattle.wy_top_probe.specs.wy_mach_run.wy_mach.Running.{Spends}
-use Rattle.wy_top_answers.specs.report.Lines.{steps_spent}
+use Rattle.wy_top_probe.specs.wy_top_answers.report.Lines.{steps_spent}
 use Rattle.wy_top_probe.specs.wy_mach_run.Running.{EndsSo, Finished, written}
 use Rattle.wy_top_probe.specs.wy_mach_run.declared.end.RunEnd.{RunEnd}
 use Rattle.wy_top_probe.specs.wy_mach_run.declared.end.RunEnd.TheVariants.{Done, Spent, OutFault}

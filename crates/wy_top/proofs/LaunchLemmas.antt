@@ -1,10 +1,10 @@
 -- The start of a run as a step.
 use Rattle.std.proofs.Common.{◌≡◌, ◌≢◌, ◌∙◌, ◌++◌, ℕ, List, true, false, IsTrue, Ok, Err, refl, sym, ap, subst}
 use Rattle.wy_top.specs.Acceptance.{Acceptance}
-use Rattle.wy_top_answers.specs.Calls.{AnswersFault}
-use Rattle.wy_top_answers.specs.Steps.{Setting, Gives}
-use Rattle.wy_top_answers.specs.declared.answer.Answer.{Answer}
-use Rattle.wy_top_answers.proofs.CallLemmas.{called_value, called_fault}
+use Rattle.wy_top_probe.specs.wy_top_answers.Calls.{AnswersFault}
+use Rattle.wy_top_probe.specs.wy_top_answers.Steps.{Setting, Gives}
+use Rattle.wy_top_probe.specs.wy_top_answers.declared.answer.Answer.{Answer}
+use Rattle.wy_top_probe.proofs.wy_top_answers_proofs.CallLemmas.{called_value, called_fault}
 use Rattle.wy_top_probe.specs.wy_mach_run.Starting.{IsRefused, Starts}
 use Rattle.wy_top_probe.specs.wy_mach_run.declared.fault.StartFault.{StartFault}
 use Rattle.wy_top_probe.specs.wy_mach_run.declared.fault.StartFault.TheVariants.{NoMemory}

@@ -4,7 +4,7 @@ use Rattle.std.specs.Prelude.{codes}
 use Rattle.std.proofs.lemmas.List.{append-nil, drop_all, length-map}
 use Rattle.wy_lemmas.proofs.Lists.{next_of as at_drop}
 use Rattle.wy_lemmas.proofs.Numbers.{two}
-use Rattle.wy_top_answers.specs.report.Lines.{of_condition, open_condition, refused}
+use Rattle.wy_top_probe.specs.wy_top_answers.report.Lines.{of_condition, open_condition, refused}
 use Rattle.wy_term.specs.Nodes.{Plain}
 use Rattle.wy_term.specs.declared.cond.Cond.{Cond}
 use Rattle.wy_vc.specs.Told.{Told, seen_cond}

@@ -3,10 +3,10 @@ use Rattle.std.proofs.Common.{◌≡◌, ◌∙◌, ◌<◌, ◌≤◌, ◌+◌,
 use Rattle.std.proofs.lemmas.List.{append-nil, drop_all}
 use Rattle.wy_prove.specs.wy_check_nodes.Seen.{seen_literal, AreOver}
 use Rattle.wy_lemmas.proofs.Lists.{next_of as at_drop}
-use Rattle.wy_top_answers.specs.report.Listing.{formula_line}
+use Rattle.wy_top_probe.specs.wy_top_answers.report.Listing.{formula_line}
 use Rattle.wy_term_text.specs.show.Text.{text_of}
 use Rattle.wy_term.specs.Term.{Term}
-use Rattle.wy_top_answers.specs.wy_check_spec.valid.Literals.{formula_of}
+use Rattle.wy_top_probe.specs.wy_top_answers.wy_check_spec.valid.Literals.{formula_of}
 use Rattle.wy_top.specs.Refusals.{literal_lines}
 use Rattle.wy_top.specs.Sign.{sign_text}
 

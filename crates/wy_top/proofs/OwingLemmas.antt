@@ -5,10 +5,10 @@ use Rattle.wy_core.specs.Types.{Ty}
 use Rattle.wy_top.specs.Faults.{is_no_memory}
 use Rattle.wy_top.specs.Owed.{IsDue, IsOwed, IsRefused, Owes}
 use Rattle.wy_top.specs.declared.fault.OwedFault.{OwedFault}
-use Rattle.wy_top_answers.specs.Calls.{AnswersFault}
-use Rattle.wy_top_answers.specs.Steps.{Setting, Gives}
-use Rattle.wy_top_answers.specs.declared.answer.Answer.{Answer}
-use Rattle.wy_top_answers.proofs.CallLemmas.{called_value, called_fault}
+use Rattle.wy_top_probe.specs.wy_top_answers.Calls.{AnswersFault}
+use Rattle.wy_top_probe.specs.wy_top_answers.Steps.{Setting, Gives}
+use Rattle.wy_top_probe.specs.wy_top_answers.declared.answer.Answer.{Answer}
+use Rattle.wy_top_probe.proofs.wy_top_answers_proofs.CallLemmas.{called_value, called_fault}
 use Rattle.wy_top.specs.Programs.{Program, fault_lines, is_faulted, lists, owed_faults, owes}
 
 made : Core ℕ → List Ty → Program

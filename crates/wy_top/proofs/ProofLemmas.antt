@@ -3,11 +3,11 @@ use Rattle.std.proofs.Common.{◌≡◌, ◌∙◌, ◌<◌, ◌^◌, ℕ, List,
 use Rattle.wy_batch.specs.Known.{Known}
 use Rattle.wy_batch.proofs.OneLemmas.{one_list}
 use Rattle.std.specs.Prelude.{IfErr, IfOk, IfSome, Option, Result, Some, map}
-use Rattle.wy_top_answers.specs.Answers.{IsRefusal, no_memory}
-use Rattle.wy_top_answers.specs.Steps.{Setting, Came, Gives, came, due, uncertified}
-use Rattle.wy_top_answers.specs.Texts.{not_certified}
-use Rattle.wy_top_answers.specs.declared.answer.Answer.{Answer}
-use Rattle.wy_top_answers.proofs.StepLemmas.{value_gives, free_gives, memory_gives}
+use Rattle.wy_top_probe.specs.wy_top_answers.Answers.{IsRefusal, no_memory}
+use Rattle.wy_top_probe.specs.wy_top_answers.Steps.{Setting, Came, Gives, came, due, uncertified}
+use Rattle.wy_top_probe.specs.wy_top_answers.Texts.{not_certified}
+use Rattle.wy_top_probe.specs.wy_top_answers.declared.answer.Answer.{Answer}
+use Rattle.wy_top_probe.proofs.wy_top_answers_proofs.StepLemmas.{value_gives, free_gives, memory_gives}
 use Rattle.wy_top.specs.Acceptance.{AreVerdicts, are_closed}
 use Rattle.wy_top.specs.Programs.{Program, conditions_of}
 use Rattle.wy_cert.specs.File.{ReadsFile}

@@ -2,13 +2,13 @@
 use Rattle.std.proofs.Common.{◌≡◌, ◌≤◌, ◌⊎◌, ◌∙◌, ◌++◌, ◌+◌, ℕ, List, [], length, take, Bool, Option, Some, None, inl, inr, arith, refl, sym, ap}
 use Rattle.std.proofs.Math.Seq.{take-append-add}
 use Rattle.std.proofs.lemmas.List.{append-nil, append_assoc, length-append}
-use Rattle.wy_top_answers.specs.Showing.{sinks}
-use Rattle.wy_top_answers.proofs.LoadLemmas.{rose_within}
-use Rattle.wy_top_answers.proofs.ShowLemmas.{took_nothing, took_whole}
+use Rattle.wy_top_probe.specs.wy_top_answers.Showing.{sinks}
+use Rattle.wy_top_probe.proofs.wy_top_answers_proofs.LoadLemmas.{rose_within}
+use Rattle.wy_top_probe.proofs.wy_top_answers_proofs.ShowLemmas.{took_nothing, took_whole}
 use Rattle.wy_top_probe.specs.wy_mach_run.wy_mach.Running.{Spends}
 use Rattle.wy_port.specs.Count.{Rose}
 use Rattle.wy_port.specs.Taken.{TookFront, with_taken}
-use Rattle.wy_top_answers.specs.report.Lines.{steps_spent}
+use Rattle.wy_top_probe.specs.wy_top_answers.report.Lines.{steps_spent}
 use Rattle.wy_top_probe.specs.wy_mach_run.Running.{EndsSo, Finished, WritesFront, written}
 use Rattle.wy_top_probe.specs.wy_mach_run.declared.end.RunEnd.{RunEnd}
 use Rattle.wy_top_probe.specs.wy_mach_run.declared.end.RunEnd.TheVariants.{Done, Spent, OutFault}

@@ -1,8 +1,8 @@
 -- The save behind what `prove` makes, seen from where the command began.
 use Rattle.std.proofs.Common.{◌≡◌, ◌≤◌, ℕ, List, arith, refl, subst}
-use Rattle.wy_top_answers.specs.Showing.{Sinks}
-use Rattle.wy_top_answers.specs.Steps.{IsDuring, setting}
-use Rattle.wy_top_answers.specs.declared.answer.Answer.{Answer}
+use Rattle.wy_top_probe.specs.wy_top_answers.Showing.{Sinks}
+use Rattle.wy_top_probe.specs.wy_top_answers.Steps.{IsDuring, setting}
+use Rattle.wy_top_probe.specs.wy_top_answers.declared.answer.Answer.{Answer}
 use Rattle.wy_port.specs.Told.{Told}
 use Rattle.wy_top.specs.Saves.{Saves, saving}
 

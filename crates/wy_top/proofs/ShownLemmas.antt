@@ -7,14 +7,14 @@ use Rattle.wy_batch.specs.wy_check.declared.verdict.Verdict.TheVariants as given
 use Rattle.wy_cert.specs.Steps.{Certificates, Written}
 use Rattle.wy_lemmas.proofs.Choices.{both_parts as both}
 use Rattle.wy_prove.specs.wy_search_spec.Tree as tree
-use Rattle.wy_top_answers.specs.wy_vc_laws.shown.Certified.{IsFormed}
-use Rattle.wy_top_answers.specs.wy_vc_laws.shown.ReadSorted.{AreSortedCertificates}
-use Rattle.wy_top_answers.proofs.wy_vc_laws_proofs.shown_lemmas.ReadLemmas.{reads_sorted}
-use Rattle.wy_top_answers.specs.wy_check_laws.sound.Sortedness.{AreSortedSteps}
-use Rattle.wy_top_answers.proofs.wy_check_laws_proofs.sound_lemmas.SoundLemmas.{valid_implies_true}
+use Rattle.wy_top_probe.specs.wy_top_answers.wy_vc_laws.shown.Certified.{IsFormed}
+use Rattle.wy_top_probe.specs.wy_top_answers.wy_vc_laws.shown.ReadSorted.{AreSortedCertificates}
+use Rattle.wy_top_probe.proofs.wy_top_answers_proofs.wy_vc_laws_proofs.shown_lemmas.ReadLemmas.{reads_sorted}
+use Rattle.wy_top_probe.specs.wy_top_answers.wy_check_laws.sound.Sortedness.{AreSortedSteps}
+use Rattle.wy_top_probe.proofs.wy_top_answers_proofs.wy_check_laws_proofs.sound_lemmas.SoundLemmas.{valid_implies_true}
 use Rattle.wy_term.specs.Condition.{Condition, HoldsAlways}
 use Rattle.wy_prove.proofs.wy_search_laws_proofs.sound_lemmas.FoundLemmas.{found_true}
-use Rattle.wy_top_answers.specs.wy_check_spec.valid.Validity.{first_bad}
+use Rattle.wy_top_probe.specs.wy_top_answers.wy_check_spec.valid.Validity.{first_bad}
 use Rattle.wy_top.specs.Acceptance.{are_closed}
 use Rattle.wy_batch.specs.Known.{is_closed, End, EndsSo, IsKnown, IsSearched, Known, end_of, found, spent, stays_open, supplied}
 use Rattle.wy_top.specs.Shown.{ClosedIsTrue, ReadIsTrue}

@@ -1,9 +1,9 @@
 -- The text of a source as a step.
 use Rattle.std.proofs.Common.{◌≡◌, ℕ, List, false, IsTrue, Ok, Err}
-use Rattle.wy_top_answers.specs.Calls.{AnswersFault}
-use Rattle.wy_top_answers.specs.Steps.{Setting, Gives}
-use Rattle.wy_top_answers.specs.declared.answer.Answer.{Answer}
-use Rattle.wy_top_answers.proofs.CallLemmas.{called_value, called_fault}
+use Rattle.wy_top_probe.specs.wy_top_answers.Calls.{AnswersFault}
+use Rattle.wy_top_probe.specs.wy_top_answers.Steps.{Setting, Gives}
+use Rattle.wy_top_probe.specs.wy_top_answers.declared.answer.Answer.{Answer}
+use Rattle.wy_top_probe.proofs.wy_top_answers_proofs.CallLemmas.{called_value, called_fault}
 use Rattle.wy_top_probe.specs.wy_top_source.texts.Refusals.{is_no_memory}
 use Rattle.wy_top_probe.specs.wy_top_source.declared.refusal.Refusal.{Refusal}
 use Rattle.wy_top_probe.specs.wy_top_source.texts.Again.{IsAgain}

@@ -1,15 +1,15 @@
 -- When is a program accepted? For each of its conditions a valid certificate was supplied, or its search closes all leaves within the budget.
 use Rattle.std.specs.Prelude.{◌≡◌, ◌&&◌, ℕ, List, [], ◌∷◌, ◌++◌, Bool, true, false, Ok, Err}
-use Rattle.wy_top_answers.specs.Answers.{refused, told}
+use Rattle.wy_top_probe.specs.wy_top_answers.Answers.{refused, told}
 use Rattle.wy_top_probe.specs.wy_link_load.Alone.{loads_alone}
-use Rattle.wy_top_answers.specs.Steps.{Came, Sense, stated, due, Setting, and_then, both, done}
-use Rattle.wy_top_answers.specs.declared.answer.Answer.{Answer}
+use Rattle.wy_top_probe.specs.wy_top_answers.Steps.{Came, Sense, stated, due, Setting, and_then, both, done}
+use Rattle.wy_top_probe.specs.wy_top_answers.declared.answer.Answer.{Answer}
 use Rattle.wy_cert.specs.Steps.{Certificates}
 use Rattle.wy_top.specs.Owed.{told_by}
 use Rattle.wy_top.specs.Refusals.{invalid_lines, refusal_lines}
-use Rattle.wy_top_answers.specs.report.Lines.{accepted}
-use Rattle.wy_top_answers.specs.wy_vc_laws.shown.Certified.{AllHold}
-use Rattle.wy_top_answers.specs.supplied.Certificates.{certificates}
+use Rattle.wy_top_probe.specs.wy_top_answers.report.Lines.{accepted}
+use Rattle.wy_top_probe.specs.wy_top_answers.wy_vc_laws.shown.Certified.{AllHold}
+use Rattle.wy_top_probe.specs.wy_top_answers.supplied.Certificates.{certificates}
 use Rattle.wy_batch.specs.Known.{Known, AreKnown, is_closed}
 use Rattle.wy_top.specs.Programs.{Program, conditions_of, count_of, owes}
 

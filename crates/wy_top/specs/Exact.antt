@@ -2,9 +2,9 @@
 use Rattle.std.specs.Prelude.{◌≡◌, ◌⊎◌, ℕ, List, Bool, Ok, Err}
 use Rattle.wy_top.specs.Acceptance.{check_steps}
 use Rattle.wy_top.specs.Proofs.{proves_file}
-use Rattle.wy_top_answers.specs.Showing.{ShowsWhole, Sinks}
-use Rattle.wy_top_answers.specs.Steps.{Came, IsTold, Sense, Setting, answer_in, due}
-use Rattle.wy_top_answers.specs.declared.answer.Answer.{Answer}
+use Rattle.wy_top_probe.specs.wy_top_answers.Showing.{ShowsWhole, Sinks}
+use Rattle.wy_top_probe.specs.wy_top_answers.Steps.{Came, IsTold, Sense, Setting, answer_in, due}
+use Rattle.wy_top_probe.specs.wy_top_answers.declared.answer.Answer.{Answer}
 use Rattle.wy_top_words.specs.CommandLine.{Asked, check, run, prove, conds, fmt, dis, big, probe}
 use Rattle.wy_top.specs.Large.{big_steps}
 use Rattle.wy_top.specs.Launching.{run_steps}

@@ -5,9 +5,9 @@ use Rattle.wy_prove.specs.wy_prove_writable.Writable.{AreWritable}
 use Rattle.wy_batch.specs.wy_check.Verdicts.{verdicts_on}
 use Rattle.wy_batch.specs.wy_check.declared.verdict.Verdict.{Verdict as Given}
 use Rattle.wy_batch.specs.wy_check.declared.verdict.Verdict.TheVariants as accepting
-use Rattle.wy_top_answers.specs.wy_check_laws.sound.Sortedness.{AreSortedSteps}
+use Rattle.wy_top_probe.specs.wy_top_answers.wy_check_laws.sound.Sortedness.{AreSortedSteps}
 use Rattle.wy_term.specs.Condition.{Condition}
-use Rattle.wy_top_answers.specs.wy_check_spec.valid.Validity.{IsValid}
+use Rattle.wy_top_probe.specs.wy_top_answers.wy_check_spec.valid.Validity.{IsValid}
 use Rattle.wy_prove.specs.Answers.{AnswersWhatIsFound}
 use Rattle.wy_batch.specs.Known.{End, Known, found, is_found, spent, stays_open, supplied}
 

@@ -2,11 +2,11 @@
 use Rattle.std.specs.Prelude.{ℕ, List}
 use Rattle.wy_core.specs.CoreTree.{Core}
 use Rattle.wy_core.specs.Types.{Ty}
-use Rattle.wy_top_answers.specs.wy_sound_terms.formed.OwedConditions.{owed_conditions}
+use Rattle.wy_top_probe.specs.wy_top_answers.wy_sound_terms.formed.OwedConditions.{owed_conditions}
 use Rattle.wy_top_probe.specs.wy_mach_run.Running.{Goes}
 use Rattle.wy_top_probe.specs.wy_mach_run.Starting.{Starts}
 use Rattle.wy_top_probe.specs.wy_mach_run.declared.parts.Start.{Start}
-use Rattle.wy_top_answers.specs.wy_vc_laws.shown.Certified.{AllHold}
+use Rattle.wy_top_probe.specs.wy_top_answers.wy_vc_laws.shown.Certified.{AllHold}
 use Rattle.wy_top_probe.specs.wy_top_source.texts.Sources.{IsProgram}
 
 -- the run of each start of a program of a source, of which every condition is true, never lacks a step

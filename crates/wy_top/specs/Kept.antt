@@ -8,15 +8,15 @@ use Rattle.wy_top.specs.declared.accepting.Accepted.{Accepted}
 use Rattle.wy_top.specs.declared.judging.Judged.{Judged}
 use Rattle.wy_top.specs.declared.owing.Owed.{Owed}
 use Rattle.wy_top.specs.declared.proving.Proof.{Proof}
-use Rattle.wy_top_answers.specs.declared.answer.Answer.{Answer}
+use Rattle.wy_top_probe.specs.wy_top_answers.declared.answer.Answer.{Answer}
 use Rattle.wy_top_probe.specs.wy_top_source.wy_assign.Assigned.{IsAssigned}
 use Rattle.wy_vc.specs.wy_vc_spec.Limits.{most_conditions}
 use Rattle.wy_cert.specs.Steps.{Certificates}
 use Rattle.wy_top.specs.Owed.{Owes, told_by}
-use Rattle.wy_top_answers.specs.wy_vc_laws.shown.Certified.{AllHold, AreFormed}
+use Rattle.wy_top_probe.specs.wy_top_answers.wy_vc_laws.shown.Certified.{AllHold, AreFormed}
 use Rattle.wy_term.specs.Condition.{condition_of}
 use Rattle.wy_term.specs.Nodes.{Plain}
-use Rattle.wy_flow_spec.specs.typing.TypedPrograms.{core_of, flow_of}
+use Rattle.wy_top_probe.specs.wy_flow_spec.typing.TypedPrograms.{core_of, flow_of}
 use Rattle.wy_vc.specs.Listed.{seen_conds}
 use Rattle.wy_vc.specs.Told.{seen_cond}
 use Rattle.wy_batch.specs.Seen.{NameTerms, known}

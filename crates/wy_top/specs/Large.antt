@@ -3,17 +3,17 @@ use Rattle.std.specs.Prelude.{◌≡◌, ◌≤◌, ◌<◌, ◌⊎◌, ◌++◌
 use Rattle.std.specs.Fmt.{decimal}
 use Rattle.wy_top.specs.Acceptance.{Acceptance, accepts_source}
 use Rattle.wy_top.specs.Programs.{count_of}
-use Rattle.wy_top_answers.specs.Answers.{refused, written as writes, no_memory}
-use Rattle.wy_top_answers.specs.Loading.{source_limit}
-use Rattle.wy_top_answers.specs.Steps.{Came, Sense, stated, due, Setting, and_then, both}
-use Rattle.wy_top_answers.specs.Texts.{of_file}
-use Rattle.wy_top_answers.specs.declared.answer.Answer.{Answer}
+use Rattle.wy_top_probe.specs.wy_top_answers.Answers.{refused, written as writes, no_memory}
+use Rattle.wy_top_probe.specs.wy_top_answers.Loading.{source_limit}
+use Rattle.wy_top_probe.specs.wy_top_answers.Steps.{Came, Sense, stated, due, Setting, and_then, both}
+use Rattle.wy_top_probe.specs.wy_top_answers.Texts.{of_file}
+use Rattle.wy_top_probe.specs.wy_top_answers.declared.answer.Answer.{Answer}
 use Rattle.wy_top_big.specs.Source.{argument_text, entry, source_of}
-use Rattle.wy_top_answers.specs.report.Lines.{steps_spent}
+use Rattle.wy_top_probe.specs.wy_top_answers.report.Lines.{steps_spent}
 use Rattle.wy_top_probe.specs.wy_mach_run.Running.{state_of, written}
 use Rattle.wy_gen_sources.specs.wy_code_spec.step.Step as step
 use Rattle.wy_gen_sources.specs.wy_code_spec.step.Step.{State, Ended}
-use Rattle.wy_top_answers.specs.supplied.Certificates.{no_file}
+use Rattle.wy_top_probe.specs.wy_top_answers.supplied.Certificates.{no_file}
 use Rattle.wy_top.specs.Launching.{starts}
 use Rattle.wy_top.specs.declared.launching.Launch.{Launch}
 

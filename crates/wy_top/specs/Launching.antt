@@ -1,10 +1,10 @@
 -- What does the command `run` come to before the machine? A start, or why there is none.
 use Rattle.std.specs.Prelude.{◌≡◌, ◌≢◌, ◌++◌, ℕ, List, [], Bool, true, false, codes}
 use Rattle.wy_top.specs.Acceptance.{Acceptance, accepts_file}
-use Rattle.wy_top_answers.specs.Calls.{Faults, called}
-use Rattle.wy_top_answers.specs.Steps.{Came, Sense, Setting, and_then}
+use Rattle.wy_top_probe.specs.wy_top_answers.Calls.{Faults, called}
+use Rattle.wy_top_probe.specs.wy_top_answers.Steps.{Came, Sense, Setting, and_then}
 use Rattle.wy_core.specs.CoreTree.{Core}
-use Rattle.wy_top_answers.specs.report.Lines.{bad_argument, no_entry, other_count, other_type, requires_fails, turns_spent}
+use Rattle.wy_top_probe.specs.wy_top_answers.report.Lines.{bad_argument, no_entry, other_count, other_type, requires_fails, turns_spent}
 use Rattle.wy_top_probe.specs.wy_mach_run.Starting.{IsRefused, Starts}
 use Rattle.wy_top_probe.specs.wy_mach_run.declared.fault.StartFault.{StartFault}
 use Rattle.wy_top_probe.specs.wy_mach_run.declared.fault.StartFault.TheVariants.{NoEntry, Argument, OtherCount, OtherType, RequiresFails, TurnsSpent, NoMemory}

@@ -42,5 +42,5 @@ pub use Rattle.wy_top_probe.specs.wy_mach_run.wy_mach as wy_mach
 pub use Rattle.wy_top_probe.specs.wy_mach_run as wy_mach_run
 pub use Rattle.wy_top_probe.specs.wy_probe as wy_probe
 pub use Rattle.wy_top_probe.specs as wy_top_probe
-pub use Rattle.wy_top_answers.specs as wy_top_answers
+pub use Rattle.wy_top_probe.specs.wy_top_answers as wy_top_answers
 pub use Rattle.wy_top_probe.specs.wy_top_source as wy_top_source

@@ -6,7 +6,7 @@ use Rattle.wy_vc.specs.wy_vc_spec.Programs.{conditions_of, setting_of}
 use Rattle.wy_core.specs.CoreTree.{Core}
 use Rattle.wy_core.specs.Types.{Ty}
 use Rattle.wy_top_probe.specs.wy_link_load.wy_parse_front.Places.{place_of}
-use Rattle.wy_top_answers.specs.report.Listing.{listed}
+use Rattle.wy_top_probe.specs.wy_top_answers.report.Listing.{listed}
 use Rattle.wy_top_probe.specs.wy_top_source.texts.Sources as sources
 use Rattle.wy_term.specs.Condition.{word_of}
 use Rattle.wy_vc.specs.declared.fault.VcFault.{VcFault}

@@ -1,15 +1,15 @@
 -- Which typed program a source has and what it owes, as a step of a command.
 use Rattle.std.specs.Prelude.{ℕ, List, length}
-use Rattle.wy_top_answers.specs.Calls.{Faults, called}
-use Rattle.wy_top_answers.specs.Steps.{Came, Sense, stated, due}
+use Rattle.wy_top_probe.specs.wy_top_answers.Calls.{Faults, called}
+use Rattle.wy_top_probe.specs.wy_top_answers.Steps.{Came, Sense, stated, due}
 use Rattle.wy_core.specs.CoreTree.{Core}
 use Rattle.wy_core.specs.Types.{Ty}
-use Rattle.wy_top_answers.specs.wy_sound_terms.formed.OwedConditions.{owed_conditions}
+use Rattle.wy_top_probe.specs.wy_top_answers.wy_sound_terms.formed.OwedConditions.{owed_conditions}
 use Rattle.wy_top_probe.specs.wy_link_load.wy_parse_front.Places.{place_of}
 use Rattle.wy_top.specs.Faults.{is_no_memory, offset, word}
 use Rattle.wy_top.specs.Owed.{IsDue, IsOwed, IsRefused, Owes}
 use Rattle.wy_top.specs.declared.fault.OwedFault.{OwedFault}
-use Rattle.wy_top_answers.specs.report.Lines.{source_fault}
+use Rattle.wy_top_probe.specs.wy_top_answers.report.Lines.{source_fault}
 use Rattle.wy_term.specs.Condition.{Condition}
 
 -- a program with its flow types

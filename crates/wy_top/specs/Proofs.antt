@@ -1,10 +1,10 @@
 -- What does the command `prove` make of a source? The verdicts on its conditions, without certificates, and a file of those that it found.
 use Rattle.std.specs.Prelude.{◌≡◌, ◌⊎◌, ℕ, List, [], ◌∷◌, length, Bool, true, false, Ok, Err}
-use Rattle.wy_top_answers.specs.Answers.{refused, written}
+use Rattle.wy_top_probe.specs.wy_top_answers.Answers.{refused, written}
 use Rattle.wy_top_probe.specs.wy_link_load.Alone.{IsAlone, loads_alone}
-use Rattle.wy_top_answers.specs.Steps.{Came, Sense, stated, due, Setting, and_then}
-use Rattle.wy_top_answers.specs.Texts.{not_certified}
-use Rattle.wy_top_answers.specs.declared.answer.Answer.{Answer}
+use Rattle.wy_top_probe.specs.wy_top_answers.Steps.{Came, Sense, stated, due, Setting, and_then}
+use Rattle.wy_top_probe.specs.wy_top_answers.Texts.{not_certified}
+use Rattle.wy_top_probe.specs.wy_top_answers.declared.answer.Answer.{Answer}
 use Rattle.wy_cert.specs.File.{ReadsFile}
 use Rattle.wy_cert.specs.Steps.{Certificates}
 use Rattle.wy_cert.specs.writing.Text.{file_text}
@@ -13,7 +13,7 @@ use Rattle.wy_term.specs.Condition.{Condition}
 use Rattle.wy_top.specs.Owed.{Owes, told_by}
 use Rattle.wy_top.specs.Found.{AreFor}
 use Rattle.wy_top.specs.Refusals.{refusal_lines}
-use Rattle.wy_top_answers.specs.report.Lines.{accepted}
+use Rattle.wy_top_probe.specs.wy_top_answers.report.Lines.{accepted}
 use Rattle.wy_batch.specs.Known.{Known, is_found}
 use Rattle.wy_top.specs.Acceptance.{AreVerdicts, are_closed}
 use Rattle.wy_top.specs.Programs.{Program, conditions_of, count_of, owes}

@@ -1,12 +1,12 @@
 -- The lines of a refusal.
 use Rattle.std.specs.Prelude.{ℕ, suc, List, [], ◌∷◌, ◌++◌, codes, length, map, Option, Some, None}
 use Rattle.wy_top_probe.specs.wy_link_load.wy_parse_front.Places.{place_of}
-use Rattle.wy_top_answers.specs.wy_check_spec.judge.Node.{Literal}
-use Rattle.wy_top_answers.specs.report.Lines.{invalid_step, open_condition, refused, spent_condition}
-use Rattle.wy_top_answers.specs.report.Listing.{formula_lines}
+use Rattle.wy_top_probe.specs.wy_top_answers.wy_check_spec.judge.Node.{Literal}
+use Rattle.wy_top_probe.specs.wy_top_answers.report.Lines.{invalid_step, open_condition, refused, spent_condition}
+use Rattle.wy_top_probe.specs.wy_top_answers.report.Listing.{formula_lines}
 use Rattle.wy_prove.specs.wy_search_spec.Tree as search
 use Rattle.wy_term.specs.Condition.{word_of}
-use Rattle.wy_top_answers.specs.wy_check_spec.valid.Literals.{formula_of}
+use Rattle.wy_top_probe.specs.wy_top_answers.wy_check_spec.valid.Literals.{formula_of}
 use Rattle.wy_vc.specs.Told.{Told}
 use Rattle.wy_batch.specs.Known.{End, supplied, found, stays_open, spent, Known, count, is_open, is_spent}
 

@@ -1,10 +1,10 @@
 -- What do the sinks take of a run that started, and which status goes with it?
 use Rattle.std.specs.Prelude.{◌≡◌, ◌⊎◌, ◌++◌, ℕ, List, [], Bool, true, false, Option}
-use Rattle.wy_top_answers.specs.Showing.{Sinks}
+use Rattle.wy_top_probe.specs.wy_top_answers.Showing.{Sinks}
 use Rattle.wy_top_probe.specs.wy_mach_run.wy_mach.Running.{Spends}
 use Rattle.wy_port.specs.Count.{Rose}
 use Rattle.wy_port.specs.Taken.{TookFront, with_taken}
-use Rattle.wy_top_answers.specs.report.Lines.{stats, steps_spent}
+use Rattle.wy_top_probe.specs.wy_top_answers.report.Lines.{stats, steps_spent}
 use Rattle.wy_top_probe.specs.wy_mach_run.Running.{Finished, WritesFront, state_of}
 use Rattle.wy_top_probe.specs.wy_mach_run.declared.end.RunEnd.{RunEnd}
 use Rattle.wy_top_probe.specs.wy_mach_run.declared.end.RunEnd.TheVariants.{Done, Spent, OutFault}

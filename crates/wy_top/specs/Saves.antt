@@ -1,12 +1,12 @@
 -- What do the sinks and the file show of a save?
 use Rattle.std.specs.Prelude.{◌≡◌, ◌⊎◌, ℕ, List}
-use Rattle.wy_top_answers.specs.Answers.{refused, no_memory as lacks_memory}
-use Rattle.wy_top_answers.specs.Showing.{Shown, Sinks}
-use Rattle.wy_top_answers.specs.declared.answer.Answer.{Answer}
+use Rattle.wy_top_probe.specs.wy_top_answers.Answers.{refused, no_memory as lacks_memory}
+use Rattle.wy_top_probe.specs.wy_top_answers.Showing.{Shown, Sinks}
+use Rattle.wy_top_probe.specs.wy_top_answers.declared.answer.Answer.{Answer}
 use Rattle.wy_port.specs.Count.{Rose}
 use Rattle.wy_port.specs.Told.{Told, IsSaved}
 use Rattle.wy_port.specs.Told.Told.{Unknown}
-use Rattle.wy_top_answers.specs.report.Lines.{save_failed}
+use Rattle.wy_top_probe.specs.wy_top_answers.report.Lines.{save_failed}
 
 -- what is told of the file before and after, and the count of failed saves before and after
 pub record Saving : Type 0 where

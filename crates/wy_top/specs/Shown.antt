@@ -3,8 +3,8 @@ use Rattle.std.specs.Prelude.{◌≡◌, ℕ, List, true, Ok}
 use Rattle.wy_term.specs.Condition.{Condition}
 use Rattle.wy_cert.specs.Steps.{Certificates}
 use Rattle.wy_cert.specs.File.{ReadsFile}
-use Rattle.wy_top_answers.specs.wy_vc_laws.shown.Certified.{AreFormed, AllHold}
-use Rattle.wy_top_answers.specs.wy_vc_laws.shown.ReadSorted.{AreSortedCertificates}
+use Rattle.wy_top_probe.specs.wy_top_answers.wy_vc_laws.shown.Certified.{AreFormed, AllHold}
+use Rattle.wy_top_probe.specs.wy_top_answers.wy_vc_laws.shown.ReadSorted.{AreSortedCertificates}
 use Rattle.wy_top.specs.Acceptance.{are_closed}
 use Rattle.wy_batch.specs.Known.{AreKnown, Known}
 

@@ -2,11 +2,11 @@
 use Rattle.std.specs.Prelude.{◌≡◌, ◌≢◌, ◌⊎◌, ℕ, List, [], Bool, Option, Some, None, Ok, Err, ⊤}
 use Rattle.wy_top.specs.Acceptance.{check_steps}
 use Rattle.wy_top.specs.Proofs.{Proves, proves_file}
-use Rattle.wy_top_answers.specs.Answers.{refused, no_memory}
-use Rattle.wy_top_answers.specs.Showing.{Shown, Sinks}
-use Rattle.wy_top_answers.specs.Steps.{Answers, Came, Gives, Sense, Setting}
-use Rattle.wy_top_answers.specs.declared.answer.Answer.{Answer}
-use Rattle.wy_top_answers.specs.report.Lines.{words_refused}
+use Rattle.wy_top_probe.specs.wy_top_answers.Answers.{refused, no_memory}
+use Rattle.wy_top_probe.specs.wy_top_answers.Showing.{Shown, Sinks}
+use Rattle.wy_top_probe.specs.wy_top_answers.Steps.{Answers, Came, Gives, Sense, Setting}
+use Rattle.wy_top_probe.specs.wy_top_answers.declared.answer.Answer.{Answer}
+use Rattle.wy_top_probe.specs.wy_top_answers.report.Lines.{words_refused}
 use Rattle.wy_top_words.specs.CommandLine.{Asked, check, run, prove, conds, fmt, dis, big, probe, command_of}
 use Rattle.wy_top.specs.Large.{big_steps}
 use Rattle.wy_top.specs.Launching.{run_steps}

@@ -1,12 +1,12 @@
 -- What do the commands come to that write a text of a source?
 use Rattle.std.specs.Prelude.{ℕ, List}
 use Rattle.wy_top.specs.Programs.{lists}
-use Rattle.wy_top_answers.specs.Answers.{written}
-use Rattle.wy_top_answers.specs.Calls.{called}
-use Rattle.wy_top_answers.specs.Loading.{loaded, source_limit}
+use Rattle.wy_top_probe.specs.wy_top_answers.Answers.{written}
+use Rattle.wy_top_probe.specs.wy_top_answers.Calls.{called}
+use Rattle.wy_top_probe.specs.wy_top_answers.Loading.{loaded, source_limit}
 use Rattle.wy_top_probe.specs.wy_link_load.Alone.{loads_alone}
-use Rattle.wy_top_answers.specs.Steps.{Came, Sense, stated, due, Setting, and_then, both, done}
-use Rattle.wy_top_answers.specs.declared.answer.Answer.{Answer}
+use Rattle.wy_top_probe.specs.wy_top_answers.Steps.{Came, Sense, stated, due, Setting, and_then, both, done}
+use Rattle.wy_top_probe.specs.wy_top_answers.declared.answer.Answer.{Answer}
 use Rattle.wy_top_probe.specs.wy_top_source.texts.Again.{IsAgain}
 use Rattle.wy_top_probe.specs.wy_top_source.texts.Texts.{IsText}
 use Rattle.wy_top_probe.specs.wy_top_source.declared.texts.kind.Kind.{Kind}

@@ -3,12 +3,12 @@ ghost use Rattle.std.specs.Prelude.{◌≡◌, ◌≤◌, ◌<◌, ◌^◌, ◌+
 ghost use Rattle.wy_top.specs.Acceptance as spec;
 ghost use Rattle.wy_top.specs.Kept.{AreEach, HasVerdicts, IsKept, IsOfSource, IsWhole, acceptance_in, judged_program, program_in};
 ghost use Rattle.wy_top.specs.Programs.{Program};
-ghost use Rattle.wy_top_answers.specs.Answers.{IsRefusal};
-ghost use Rattle.wy_top_answers.specs.Steps.{During, Gives, Setting, came};
+ghost use Rattle.wy_top_probe.specs.wy_top_answers.Answers.{IsRefusal};
+ghost use Rattle.wy_top_probe.specs.wy_top_answers.Steps.{During, Gives, Setting, came};
 ghost use Rattle.wy_cert.specs.Steps.{Certificates, NameTheirTerms, certificates_of};
 ghost use Rattle.wy_top.specs.Owed.{told_by};
 ghost use Rattle.wy_top.specs.Refusals as refusals;
-ghost use Rattle.wy_top_answers.specs.wy_vc_laws.shown.ReadSorted.{AreSortedCertificates};
+ghost use Rattle.wy_top_probe.specs.wy_top_answers.wy_vc_laws.shown.ReadSorted.{AreSortedCertificates};
 ghost use Rattle.wy_batch.specs.Seen.{known};
 
 use crate::counting::are_closed;
@@ -20,11 +20,11 @@ use std::alloc::Global;
 use std::thread::Threads;
 use wy_cert::Certs;
 use wy_data::Bytes;
-use wy_flow_spec::typing::Typed;
 use wy_port::Files;
-use wy_top_answers::supplied::certificates;
-use wy_top_answers::{Answer, no_memory};
 use wy_top_probe::load_alone;
+use wy_top_probe::wy_flow_spec::typing::Typed;
+use wy_top_probe::wy_top_answers::supplied::certificates;
+use wy_top_probe::wy_top_answers::{Answer, no_memory};
 
 /// A program for each condition of which a valid certificate was supplied, or the search closed all leaves.
 #[derive(Drop)]

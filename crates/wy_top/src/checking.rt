@@ -2,16 +2,16 @@
 ghost use Rattle.std.specs.Prelude.{◌≡◌, ◌≤◌, ◌⊎◌, ℕ, List};
 ghost use Rattle.wy_top.specs.Acceptance as spec;
 ghost use Rattle.wy_top.specs.Kept.{IsWhole, acceptance_in};
-ghost use Rattle.wy_top_answers.specs.Answers as answers;
-ghost use Rattle.wy_top_answers.specs.Steps.{Answers, During};
+ghost use Rattle.wy_top_probe.specs.wy_top_answers.Answers as answers;
+ghost use Rattle.wy_top_probe.specs.wy_top_answers.Steps.{Answers, During};
 
 use crate::accepting::{Accepted, accept_file};
 use std::alloc::Global;
 use std::thread::Threads;
 use wy_data::Bytes;
 use wy_port::Files;
-use wy_top_answers::report::accepted as accepted_line;
-use wy_top_answers::{Answer, no_memory};
+use wy_top_probe::wy_top_answers::report::accepted as accepted_line;
+use wy_top_probe::wy_top_answers::{Answer, no_memory};
 
 // How many conditions were accepted.
 fn answer_of(alloc: Global, accepted: Accepted) -> Answer

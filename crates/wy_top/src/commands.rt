@@ -1,7 +1,7 @@
 //! The commands: from words to a status and to what the sinks take.
-ghost use Rattle.std.specs.Prelude.{◌≡◌, ◌≢◌, ◌≤◌, ℕ, List, Some};
-ghost use Rattle.wy_top_answers.specs.Showing.{sinks};
-ghost use Rattle.wy_top_answers.specs.Steps.{setting};
+ghost use Rattle.std.specs.Prelude.{◌≡◌, ◌≤◌, ℕ, List, Some};
+ghost use Rattle.wy_top_probe.specs.wy_top_answers.Showing.{sinks};
+ghost use Rattle.wy_top_probe.specs.wy_top_answers.Steps.{setting};
 ghost use Rattle.wy_top.specs.Going.{AcceptedRunsGo};
 ghost use Rattle.wy_top.specs.Saves.{saving};
 ghost use Rattle.wy_top.specs.Statement.{Comes, Does, IsKeptBy, saved_name};
@@ -18,9 +18,9 @@ use crate::texts::{Text, text_answer};
 use std::alloc::Global;
 use std::thread::Threads;
 use wy_port::{Files, Sink};
-use wy_top_answers::report::words_refused;
-use wy_top_answers::{no_memory, refusal, show};
 use wy_top_probe::probe_answer;
+use wy_top_probe::wy_top_answers::report::words_refused;
+use wy_top_probe::wy_top_answers::{no_memory, refusal, show};
 use wy_top_words::{Words, WordsFault, read_words};
 
 /// Does what `words` say, over `files`, and answers the exit status. Results go to `out`, refusals to `err`.
@@ -61,42 +61,18 @@ pub fn run_words<R: Threads + Sync, F: Files, O: Sink, E: Sink>(
 ) -> u8
     requires { AcceptedRunsGo }
     ensures comes { Comes (words_in words.now)
-        (setting (F.told files.old) (F.load_faults files.old) (F.load_faults files.new) (F.misses files.old) (F.misses files.new))
-        (saving (F.told files.old (saved_name (command_of (words_in words.now)))) (F.told files.new (saved_name (command_of (words_in words.now)))) (F.save_faults files.old) (F.save_faults files.new))
+        (setting (F.told files.old) (F.load_faults files.old) (F.load_faults files.new)
+        (F.misses files.old) (F.misses files.new))
+        (saving (F.told files.old (saved_name (command_of (words_in words.now))))
+        (F.told files.new (saved_name (command_of (words_in words.now))))
+        (F.save_faults files.old) (F.save_faults files.new))
         result
-        (sinks (O.taken out.old) (O.taken out.new) (O.faults out.old) (O.faults out.new) (E.taken err.old) (E.taken err.new) (E.faults err.old) (E.faults err.new)) }
-
-    // What comes is what may come for any other words that ask for the same, by however many workers.
-    ensures workers { (others : List (List ℕ)) → command_of others ≡ command_of (words_in words.now) → Comes others
-        (setting (F.told files.old) (F.load_faults files.old) (F.load_faults files.new) (F.misses files.old) (F.misses files.new))
-        (saving (F.told files.old (saved_name (command_of (words_in words.now)))) (F.told files.new (saved_name (command_of (words_in words.now)))) (F.save_faults files.old) (F.save_faults files.new))
-        result
-        (sinks (O.taken out.old) (O.taken out.new) (O.faults out.old) (O.faults out.new) (E.taken err.old) (E.taken err.new) (E.faults err.old) (E.faults err.new)) }
+        (sinks (O.taken out.old) (O.taken out.new) (O.faults out.old) (O.faults out.new)
+        (E.taken err.old) (E.taken err.new) (E.faults err.old) (E.faults err.new)) }
 
     // No file is changed but the one that `prove` saves.
-    ensures kept { (other : List ℕ) → IsKeptBy (command_of (words_in words.now)) other → F.told files.new other ≡ F.told files.old other }
-{
-    called(rt, alloc, words, files, out, err)
-}
-
-// The call, with what it comes to.
-fn called<R: Threads + Sync, F: Files, O: Sink, E: Sink>(
-    rt: &R,
-    alloc: Global,
-    words: &[String],
-    files: &mut F,
-    out: &mut O,
-    err: &mut E,
-) -> u8
-    requires { AcceptedRunsGo }
-    ensures comes { Comes (words_in words.now)
-        (setting (F.told files.old) (F.load_faults files.old) (F.load_faults files.new) (F.misses files.old) (F.misses files.new))
-        (saving (F.told files.old (saved_name (command_of (words_in words.now)))) (F.told files.new (saved_name (command_of (words_in words.now)))) (F.save_faults files.old) (F.save_faults files.new))
-        result
-        (sinks (O.taken out.old) (O.taken out.new) (O.faults out.old) (O.faults out.new) (E.taken err.old) (E.taken err.new) (E.faults err.old) (E.faults err.new)) }
-
-    // No file is changed but the one that `prove` saves.
-    ensures kept { (other : List ℕ) → IsKeptBy (command_of (words_in words.now)) other → F.told files.new other ≡ F.told files.old other }
+    ensures kept { (other : List ℕ) → IsKeptBy (command_of (words_in words.now)) other
+        → F.told files.new other ≡ F.told files.old other }
 {
     match read_words(alloc, words) {
         Ok(ordered) => {
@@ -127,11 +103,16 @@ fn perform<R: Threads + Sync, F: Files, O: Sink, E: Sink>(
     requires goes { AcceptedRunsGo }
     requires workers { (1 ≤ workers) × (workers ≤ 64) }
     ensures does { Does (asked_in asked.entry)
-        (setting (F.told files.old) (F.load_faults files.old) (F.load_faults files.new) (F.misses files.old) (F.misses files.new))
-        (saving (F.told files.old (saved_name (Some (asked_in asked.entry)))) (F.told files.new (saved_name (Some (asked_in asked.entry)))) (F.save_faults files.old) (F.save_faults files.new))
+        (setting (F.told files.old) (F.load_faults files.old) (F.load_faults files.new)
+        (F.misses files.old) (F.misses files.new))
+        (saving (F.told files.old (saved_name (Some (asked_in asked.entry))))
+        (F.told files.new (saved_name (Some (asked_in asked.entry))))
+        (F.save_faults files.old) (F.save_faults files.new))
         result
-        (sinks (O.taken out.old) (O.taken out.new) (O.faults out.old) (O.faults out.new) (E.taken err.old) (E.taken err.new) (E.faults err.old) (E.faults err.new)) }
-    ensures kept { (other : List ℕ) → IsKeptBy (Some (asked_in asked.entry)) other → F.told files.new other ≡ F.told files.old other }
+        (sinks (O.taken out.old) (O.taken out.new) (O.faults out.old) (O.faults out.new)
+        (E.taken err.old) (E.taken err.new) (E.faults err.old) (E.faults err.new)) }
+    ensures kept { (other : List ℕ) → IsKeptBy (Some (asked_in asked.entry)) other
+        → F.told files.new other ≡ F.told files.old other }
 {
     match asked {
         Words::Check {

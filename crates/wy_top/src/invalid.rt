@@ -6,7 +6,7 @@ ghost use Rattle.wy_batch.specs.Seen.{known};
 use std::alloc::Global;
 use wy_batch::Verdict;
 use wy_term::NoMemory;
-use wy_top_answers::report::invalid_step;
+use wy_top_probe::wy_top_answers::report::invalid_step;
 
 /// A line for each condition whose certificate in this file isn't valid, in order: the number of its first bad step. In time linear in
 /// the conditions and the text.

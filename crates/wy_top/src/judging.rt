@@ -1,7 +1,7 @@
 //! The verdicts on what a program owes.
 ghost use Rattle.std.specs.Prelude.{◌≡◌, ◌≤◌, IfOk, IfErr};
 ghost use Rattle.wy_top.specs.Kept.{AreEach, HasVerdicts, IsKept, program_in};
-ghost use Rattle.wy_top_answers.specs.Answers as answers;
+ghost use Rattle.wy_top_probe.specs.wy_top_answers.Answers as answers;
 ghost use Rattle.wy_cert.specs.Steps.{NameTheirTerms, certificates_of};
 
 use crate::owing::Owed;
@@ -9,9 +9,9 @@ use std::alloc::Global;
 use std::thread::Threads;
 use wy_batch::{Verdict, judge};
 use wy_cert::Certs;
-use wy_flow_spec::typing::Typed;
 use wy_term::Conds;
-use wy_top_answers::{Answer, no_memory};
+use wy_top_probe::wy_flow_spec::typing::Typed;
+use wy_top_probe::wy_top_answers::{Answer, no_memory};
 
 /// A program with what it owes and what is known of each condition.
 #[derive(Drop)]

@@ -2,8 +2,8 @@
 ghost use Rattle.std.specs.Prelude.{◌≡◌, ◌≤◌, ◌++◌, ℕ, List, IfOk};
 ghost use Rattle.std.specs.String.{string_bytes};
 ghost use Rattle.wy_top.specs.Kept.{IsWhole, acceptance_in};
-ghost use Rattle.wy_top_answers.specs.Calls.{AnswersFault};
-ghost use Rattle.wy_top_answers.specs.Steps.{During, Gives, Setting};
+ghost use Rattle.wy_top_probe.specs.wy_top_answers.Calls.{AnswersFault};
+ghost use Rattle.wy_top_probe.specs.wy_top_answers.Steps.{During, Gives, Setting};
 ghost use Rattle.wy_top_probe.specs.wy_mach_run.Running.{CanRun};
 ghost use Rattle.wy_top.specs.Going.{AcceptedRunsGo};
 ghost use Rattle.wy_top.specs.Launching as spec;
@@ -13,10 +13,10 @@ use std::alloc::{AllocError, Global};
 use std::thread::Threads;
 use wy_data::Bytes;
 use wy_port::Files;
-use wy_top_answers::report::{
+use wy_top_probe::wy_top_answers::report::{
     bad_argument, no_entry, other_count, other_type, requires_fails, turns_spent,
 };
-use wy_top_answers::{Answer, no_memory, refusal_behind};
+use wy_top_probe::wy_top_answers::{Answer, no_memory, refusal_behind};
 use wy_top_probe::{Start, StartFault, start};
 use wy_value::ValueFault;
 

@@ -2,14 +2,14 @@
 ghost use Rattle.std.specs.Prelude.{◌≡◌, ◌<◌, ◌^◌, All, IfOk, OnOk, ◌++◌, ℕ, List, length, map};
 ghost use Rattle.wy_batch.specs.wy_check.Within.{IsWithin};
 ghost use Rattle.wy_top_probe.specs.wy_link_load.wy_parse_front.lines.Starts.{AreLines};
-ghost use Rattle.wy_top_answers.specs.report.Shown.{AreShown};
+ghost use Rattle.wy_top_probe.specs.wy_top_answers.report.Shown.{AreShown};
 ghost use Rattle.wy_top.specs.Owed as spec;
 ghost use Rattle.wy_vc.specs.Told.{seen_cond};
 
 use std::alloc::Global;
 use wy_term::{Cond, Conds, NoMemory, Terms};
-use wy_top_answers::report::{Shown, listed, nothing_shown};
 use wy_top_probe::Lines;
+use wy_top_probe::wy_top_answers::report::{Shown, listed, nothing_shown};
 
 /// The conditions in order, each with its number from 1, its kind, the line and the column of the construct that owes it, its
 /// hypotheses and its goal. The text of each formula is made once, and copied where it stands again: so the time is linear in the source and

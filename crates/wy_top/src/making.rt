@@ -2,7 +2,7 @@
 ghost use Rattle.std.specs.Prelude.{◌≡◌, ◌≤◌, ◌<◌, ◌^◌, ℕ, List, length, IfOk, IfSome};
 ghost use Rattle.std.specs.String.{string_bytes};
 ghost use Rattle.wy_top.specs.Kept.{IsWhole, acceptance_in};
-ghost use Rattle.wy_top_answers.specs.Steps.{Answers, During, Gives, Setting};
+ghost use Rattle.wy_top_probe.specs.wy_top_answers.Steps.{Answers, During, Gives, Setting};
 ghost use Rattle.wy_top_probe.specs.wy_mach_run.Running.{CanRun};
 ghost use Rattle.wy_top.specs.Going.{AcceptedRunsGo};
 ghost use Rattle.wy_top.specs.Large as spec;
@@ -13,9 +13,9 @@ use std::alloc::{AllocError, Global};
 use std::thread::Threads;
 use wy_data::Bytes;
 use wy_port::{Files, MemSink};
-use wy_top_answers::report::steps_spent;
-use wy_top_answers::{Answer, SOURCE_LIMIT, no_memory, refusal};
 use wy_top_big::{argument_text, entry, source_of};
+use wy_top_probe::wy_top_answers::report::steps_spent;
+use wy_top_probe::wy_top_answers::{Answer, SOURCE_LIMIT, no_memory, refusal};
 use wy_top_probe::{RunEnd, run_start};
 
 /// The most bytes that the run writes: those of a number and a line end.

@@ -3,22 +3,22 @@ ghost use Rattle.std.specs.Prelude.{◌≡◌, ◌<◌, ◌^◌, length, IfOk};
 ghost use Rattle.std.specs.String.{string_bytes};
 ghost use Rattle.wy_top.specs.Kept.{IsKept, program_in};
 ghost use Rattle.wy_top.specs.Programs as spec;
-ghost use Rattle.wy_top_answers.specs.Calls.{AnswersFault};
-ghost use Rattle.wy_top_answers.specs.Steps.{Gives, Setting, came};
+ghost use Rattle.wy_top_probe.specs.wy_top_answers.Calls.{AnswersFault};
+ghost use Rattle.wy_top_probe.specs.wy_top_answers.Steps.{Gives, Setting, came};
 ghost use Rattle.wy_top.specs.Faults as faults;
 ghost use Rattle.wy_top.specs.Owed.{Owes};
-ghost use Rattle.wy_flow_spec.specs.typing.TypedPrograms.{core_of, flow_of};
+ghost use Rattle.wy_top_probe.specs.wy_flow_spec.typing.TypedPrograms.{core_of, flow_of};
 
 use crate::fault::{OwedFault, is_no_memory, offset, word};
 use crate::reading::read_owed;
 use crate::writing::owed_text;
 use std::alloc::{AllocError, Global};
 use wy_data::Bytes;
-use wy_flow_spec::typing::Typed;
 use wy_term::Conds;
-use wy_top_answers::report::source_fault;
-use wy_top_answers::{Answer, no_memory, refusal};
 use wy_top_probe::locate;
+use wy_top_probe::wy_flow_spec::typing::Typed;
+use wy_top_probe::wy_top_answers::report::source_fault;
+use wy_top_probe::wy_top_answers::{Answer, no_memory, refusal};
 
 /// A typed and assigned program, and the conditions that it owes.
 #[derive(Drop)]

@@ -1,13 +1,13 @@
 //! What the command `prove` makes of a source.
 ghost use Rattle.std.specs.Prelude.{◌≡◌, ◌≤◌, ◌<◌, ◌^◌, [], ℕ, List, length, map, IfOk, IfErr};
-ghost use Rattle.wy_top_answers.specs.Answers as answers;
-ghost use Rattle.wy_top_answers.specs.Answers.{IsRefusal};
-ghost use Rattle.wy_top_answers.specs.Texts.{not_certified};
+ghost use Rattle.wy_top_probe.specs.wy_top_answers.Answers as answers;
+ghost use Rattle.wy_top_probe.specs.wy_top_answers.Answers.{IsRefusal};
+ghost use Rattle.wy_top_probe.specs.wy_top_answers.Texts.{not_certified};
 ghost use Rattle.wy_cert.specs.Steps.{NameTheirTerms, certificates_of};
 ghost use Rattle.wy_top.specs.Kept.{AreEach, HasVerdicts, IsKept, answer_in, program_in};
 ghost use Rattle.wy_top.specs.Programs.{Program};
 ghost use Rattle.wy_top.specs.Proofs as spec;
-ghost use Rattle.wy_top_answers.specs.Steps.{During, Gives, Setting, came};
+ghost use Rattle.wy_top_probe.specs.wy_top_answers.Steps.{During, Gives, Setting, came};
 ghost use Rattle.wy_cert.specs.writing.Text.{file_text};
 ghost use Rattle.wy_top.specs.Acceptance.{are_closed as are_closed_in};
 ghost use Rattle.wy_batch.specs.Seen.{known};
@@ -24,9 +24,9 @@ use wy_cert::writing::write_certs;
 use wy_data::Bytes;
 use wy_port::Files;
 use wy_term::NoMemory;
-use wy_top_answers::report::accepted as accepted_line;
-use wy_top_answers::{Answer, no_memory, refusal};
 use wy_top_probe::load_alone;
+use wy_top_probe::wy_top_answers::report::accepted as accepted_line;
+use wy_top_probe::wy_top_answers::{Answer, no_memory, refusal};
 
 /// What `prove` saves, and what it answers behind the save.
 #[derive(Drop)]

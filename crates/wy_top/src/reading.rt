@@ -5,21 +5,21 @@ ghost use Rattle.wy_top_probe.specs.wy_top_source.wy_assign.Assigned.{IsAssigned
 ghost use Rattle.wy_vc.specs.wy_vc_spec.Limits.{most_conditions};
 ghost use Rattle.wy_core.specs.CoreTree as tree;
 ghost use Rattle.wy_core.specs.Types as types;
-ghost use Rattle.wy_top_answers.specs.wy_sound_terms.formed.OwedConditions.{owed_conditions};
+ghost use Rattle.wy_top_probe.specs.wy_top_answers.wy_sound_terms.formed.OwedConditions.{owed_conditions};
 ghost use Rattle.wy_top.specs.Faults.{is_no_memory};
 ghost use Rattle.wy_top.specs.Owed.{IsDue, IsRefused, Owes, told_by};
 ghost use Rattle.wy_top.specs.declared.fault.OwedFault.{OwedFault};
-ghost use Rattle.wy_top_answers.specs.wy_vc_laws.shown.Certified.{AreFormed};
+ghost use Rattle.wy_top_probe.specs.wy_top_answers.wy_vc_laws.shown.Certified.{AreFormed};
 ghost use Rattle.wy_top_probe.specs.wy_top_source.texts.Sources.{IsFormed};
 ghost use Rattle.wy_term.specs.Condition.{condition_of};
-ghost use Rattle.wy_flow_spec.specs.typing.TypedPrograms.{core_of, flow_of};
+ghost use Rattle.wy_top_probe.specs.wy_flow_spec.typing.TypedPrograms.{core_of, flow_of};
 ghost use Rattle.wy_vc.specs.Listed.{seen_conds};
 
 use crate::fault::OwedFault;
 use std::alloc::Global;
-use wy_flow_spec::typing::Typed;
 use wy_term::Conds;
 use wy_top_probe::read_program;
+use wy_top_probe::wy_flow_spec::typing::Typed;
 use wy_vc::conditions;
 
 /// The typed and assigned program that the bytes spell, and the conditions that it owes, in order. The source is refused first; then

@@ -5,12 +5,12 @@ ghost use Rattle.wy_prove.specs.wy_check_nodes.Seen.{seen_literal, AreOver};
 ghost use Rattle.wy_top_probe.specs.wy_link_load.wy_parse_front.lines.Starts.{AreLines};
 ghost use Rattle.wy_top.specs.Refusals as spec;
 ghost use Rattle.wy_top.specs.Sign.{sign_text};
-ghost use Rattle.wy_top_answers.specs.report.Lines as report;
-ghost use Rattle.wy_top_answers.specs.report.Listing.{formula_line};
+ghost use Rattle.wy_top_probe.specs.wy_top_answers.report.Lines as report;
+ghost use Rattle.wy_top_probe.specs.wy_top_answers.report.Listing.{formula_line};
 ghost use Rattle.wy_prove.specs.Seen.{seen_why};
 ghost use Rattle.wy_term.specs.Condition.{word_of};
 ghost use Rattle.wy_term.specs.Nodes.{Plain, tree_at};
-ghost use Rattle.wy_top_answers.specs.wy_check_spec.valid.Literals.{formula_of};
+ghost use Rattle.wy_top_probe.specs.wy_top_answers.wy_check_spec.valid.Literals.{formula_of};
 ghost use Rattle.wy_vc.specs.Told.{seen_cond};
 ghost use Rattle.wy_batch.specs.Seen.{known, NamesTerms, NameTerms, seen_end};
 
@@ -20,8 +20,8 @@ use wy_batch::{End, Verdict};
 use wy_prove::{OpenLeaf, Why};
 use wy_term::{Cond, NoMemory, Terms};
 use wy_term_text::show::show_formula;
-use wy_top_answers::report::{open_condition, refused, spent_condition};
 use wy_top_probe::Lines;
+use wy_top_probe::wy_top_answers::report::{open_condition, refused, spent_condition};
 
 /// For each condition that is open, or whose budget of leaves is spent, its lines: where it stands in the source, its number from 1, its
 /// kind, and why it is open with the literals of its leaf, or the budget. The last line has how many conditions there are, how many are

@@ -1,14 +1,14 @@
 //! The run of a program that started.
 ghost use Rattle.std.specs.Prelude.{◌≡◌, ◌≤◌, IfOk};
 ghost use Rattle.std.specs.String.{string_bytes};
-ghost use Rattle.wy_top_answers.specs.Showing.{sinks};
+ghost use Rattle.wy_top_probe.specs.wy_top_answers.Showing.{sinks};
 ghost use Rattle.wy_top_probe.specs.wy_mach_run.Running.{CanRun};
 ghost use Rattle.wy_top.specs.Runs as spec;
 
 use crate::launching::Launch;
 use std::alloc::{AllocError, Global};
 use wy_port::{Sink, write_whole};
-use wy_top_answers::report::{stats, steps_spent};
+use wy_top_probe::wy_top_answers::report::{stats, steps_spent};
 use wy_top_probe::{RunEnd, run_start};
 
 /// The status where a sink failed.

@@ -1,13 +1,13 @@
 //! The command `prove`: the certificates that were found are saved, and then the answer is written.
 ghost use Rattle.std.specs.Prelude.{◌≡◌, ◌≢◌, ◌≤◌, ℕ, List};
-ghost use Rattle.wy_top_answers.specs.Showing.{sinks};
+ghost use Rattle.wy_top_probe.specs.wy_top_answers.Showing.{sinks};
 ghost use Rattle.wy_top.specs.Saves as spec;
 
 use crate::proving::Proof;
 use std::alloc::Global;
 use wy_port::{Files, SaveFault, Sink};
-use wy_top_answers::report::save_failed;
-use wy_top_answers::{no_memory, refusal, show};
+use wy_top_probe::wy_top_answers::report::save_failed;
+use wy_top_probe::wy_top_answers::{no_memory, refusal, show};
 
 /// Saves the file of a proof under a name, and writes its answer; where the save fails, the line of that alone. It answers the
 /// status.

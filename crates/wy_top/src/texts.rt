@@ -1,14 +1,14 @@
 //! The commands that write a text of a source: `fmt`, `dis` and `conds`.
 ghost use Rattle.std.specs.Prelude.{◌≡◌, ◌≤◌, ◌<◌, ◌^◌, ℕ, List, length, IfOk};
-ghost use Rattle.wy_top_answers.specs.Loading.{source_limit};
-ghost use Rattle.wy_top_answers.specs.Steps.{Answers, During, Gives, Setting};
+ghost use Rattle.wy_top_probe.specs.wy_top_answers.Loading.{source_limit};
+ghost use Rattle.wy_top_probe.specs.wy_top_answers.Steps.{Answers, During, Gives, Setting};
 ghost use Rattle.wy_top.specs.Texts as spec;
 
 use crate::owing::listed;
 use std::alloc::Global;
 use wy_data::Bytes;
 use wy_port::Files;
-use wy_top_answers::{Answer, SOURCE_LIMIT, load};
+use wy_top_probe::wy_top_answers::{Answer, SOURCE_LIMIT, load};
 use wy_top_probe::{Kind, fault_answer, load_alone, text_of};
 
 /// A text of a source.

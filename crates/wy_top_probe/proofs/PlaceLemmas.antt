@@ -1,7 +1,7 @@
 -- The line of a fault at its place.
 use Rattle.std.proofs.Common.{◌≡◌, ◌∙◌, ℕ, List, ap}
 use Rattle.wy_link_load.specs.wy_parse_front.Places.{place_of}
-use Rattle.wy_top_answers.specs.report.Lines.{source_fault}
+use Rattle.wy_link_load.specs.wy_top_answers.report.Lines.{source_fault}
 
 -- the line at what was found to be the place of an offset, with a word
 pub located : (name bytes : List ℕ) (at_line column at other : ℕ) (called word : List ℕ) → (at_line, column) ≡ place_of bytes at → at ≡ other → called ≡ word

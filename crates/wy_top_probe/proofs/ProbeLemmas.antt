@@ -6,13 +6,13 @@ use Rattle.wy_mach_run.proofs.EntryLemmas.{one_first}
 use Rattle.wy_probe.specs.Comes.{probe_of}
 use Rattle.wy_probe.specs.Trials.{Finding, FindsFirst, tuples_of}
 use Rattle.wy_probe.proofs.OnceLemmas.{finds_once}
-use Rattle.wy_top_answers.specs.Answers.{IsRefusal, no_memory}
-use Rattle.wy_top_answers.specs.Steps.{Answers, Came, Gives, Sense, Setting}
-use Rattle.wy_top_answers.specs.declared.answer.Answer.{Answer}
-use Rattle.wy_top_answers.specs.report.Lines.{no_entry}
-use Rattle.wy_top_answers.proofs.AnswerLemmas.{last_answers, memory_answers}
-use Rattle.wy_top_answers.proofs.CallLemmas.{called_fault, called_value}
-use Rattle.wy_top_answers.proofs.StepLemmas.{value_gives}
+use Rattle.wy_link_load.specs.wy_top_answers.Answers.{IsRefusal, no_memory}
+use Rattle.wy_link_load.specs.wy_top_answers.Steps.{Answers, Came, Gives, Sense, Setting}
+use Rattle.wy_link_load.specs.wy_top_answers.declared.answer.Answer.{Answer}
+use Rattle.wy_link_load.specs.wy_top_answers.report.Lines.{no_entry}
+use Rattle.wy_link_load.proofs.wy_top_answers_proofs.AnswerLemmas.{last_answers, memory_answers}
+use Rattle.wy_link_load.proofs.wy_top_answers_proofs.CallLemmas.{called_fault, called_value}
+use Rattle.wy_link_load.proofs.wy_top_answers_proofs.StepLemmas.{value_gives}
 use Rattle.wy_top_probe.specs.Probing.{IsProbed, enters, entry_faults, found_answer, probes}
 
 -- ---- the entry

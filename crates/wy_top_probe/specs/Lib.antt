@@ -7,3 +7,5 @@ pub use Rattle.wy_probe.specs as wy_probe
 pub use Rattle.wy_link_load.specs as wy_link_load
 pub use Rattle.wy_mach_run.specs as wy_mach_run
 pub use Rattle.wy_top_source.specs as wy_top_source
+pub use Rattle.wy_link_load.specs.wy_top_answers as wy_top_answers
+pub use Rattle.wy_mach_run.specs.wy_flow_spec as wy_flow_spec

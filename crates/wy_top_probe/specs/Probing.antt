@@ -13,11 +13,11 @@ use Rattle.wy_link_load.specs.wy_parse_front.Places.{place_of}
 use Rattle.wy_mach_run.specs.Entries.{HasNoEntry, IsEntry}
 use Rattle.wy_probe.specs.Comes.{probe_of}
 use Rattle.wy_probe.specs.Trials.{Finding, Faulted, Faultless, FindsFirst}
-use Rattle.wy_top_answers.specs.Answers.{written}
-use Rattle.wy_top_answers.specs.Calls.{Faults, called}
-use Rattle.wy_top_answers.specs.Steps.{Came, Sense, Setting, and_then, both}
-use Rattle.wy_top_answers.specs.declared.answer.Answer.{Answer}
-use Rattle.wy_top_answers.specs.report.Lines.{line, no_entry}
+use Rattle.wy_link_load.specs.wy_top_answers.Answers.{written}
+use Rattle.wy_link_load.specs.wy_top_answers.Calls.{Faults, called}
+use Rattle.wy_link_load.specs.wy_top_answers.Steps.{Came, Sense, Setting, and_then, both}
+use Rattle.wy_link_load.specs.wy_top_answers.declared.answer.Answer.{Answer}
+use Rattle.wy_link_load.specs.wy_top_answers.report.Lines.{line, no_entry}
 use Rattle.wy_top_source.specs.Sources.{IsProgram}
 use Rattle.wy_top_source.specs.declared.texts.kind.Kind.TheVariants.{Listing}
 use Rattle.wy_top_probe.specs.Texts.{is_faulted, source_faults}

@@ -1,9 +1,9 @@
 -- What does a command come to, where its source is faulted?
 use Rattle.std.specs.Prelude.{ℕ, List}
 use Rattle.wy_link_load.specs.wy_parse_front.Places.{place_of}
-use Rattle.wy_top_answers.specs.Calls.{Faults}
-use Rattle.wy_top_answers.specs.Steps.{Sense, due, stated}
-use Rattle.wy_top_answers.specs.report.Lines.{source_fault}
+use Rattle.wy_link_load.specs.wy_top_answers.Calls.{Faults}
+use Rattle.wy_link_load.specs.wy_top_answers.Steps.{Sense, due, stated}
+use Rattle.wy_link_load.specs.wy_top_answers.report.Lines.{source_fault}
 use Rattle.wy_top_source.specs.declared.refusal.Refusal.{Refusal}
 use Rattle.wy_top_source.specs.declared.texts.kind.Kind.{Kind}
 use Rattle.wy_top_source.specs.texts.Refusals.{is_no_memory, offset, word}

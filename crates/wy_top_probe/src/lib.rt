@@ -13,6 +13,6 @@ mod texts;
 
 pub use probing::probe_answer;
 pub use texts::fault_answer;
-pub use wy_link_load::{Lines, load_alone, locate};
-pub use wy_mach_run::{RunEnd, Start, StartFault, run_start, start};
+pub use wy_link_load::{Lines, load_alone, locate, wy_top_answers};
+pub use wy_mach_run::{RunEnd, Start, StartFault, run_start, start, wy_flow_spec};
 pub use wy_top_source::texts::{Kind, Refusal, is_no_memory, offset, read_program, text_of, word};

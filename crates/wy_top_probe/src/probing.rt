@@ -1,22 +1,22 @@
 //! The command `probe`: arguments on which the program of a source faults.
 ghost use Rattle.std.specs.Prelude.{◌≡◌, ◌≤◌, ◌<◌, ◌^◌, ◌⊎◌, ℕ, List, length, IfOk};
-ghost use Rattle.wy_flow_spec.specs.typing.TypedPrograms.{core_of, flow_of};
+ghost use Rattle.wy_mach_run.specs.wy_flow_spec.typing.TypedPrograms.{core_of, flow_of};
 ghost use Rattle.wy_probe.specs.Trials.{IsRoutine, seen_end};
-ghost use Rattle.wy_top_answers.specs.Answers as answers;
-ghost use Rattle.wy_top_answers.specs.Steps.{Answers, During, Gives, Setting, came};
+ghost use Rattle.wy_link_load.specs.wy_top_answers.Answers as answers;
+ghost use Rattle.wy_link_load.specs.wy_top_answers.Steps.{Answers, During, Gives, Setting, came};
 ghost use Rattle.wy_top_probe.specs.Probing as spec;
 
 use crate::probe_lines::{fault_line, none_line};
 use crate::texts::fault_answer;
 use std::alloc::Global;
 use wy_data::Bytes;
-use wy_flow_spec::typing::Typed;
 use wy_link_load::load_alone;
+use wy_link_load::wy_top_answers::report::no_entry;
+use wy_link_load::wy_top_answers::{Answer, no_memory, refusal};
+use wy_mach_run::wy_flow_spec::typing::Typed;
 use wy_mach_run::{StartFault, entry_of};
 use wy_port::Files;
 use wy_probe::{ProbeEnd, probe};
-use wy_top_answers::report::no_entry;
-use wy_top_answers::{Answer, no_memory, refusal};
 use wy_top_source::read_program;
 
 /// The status of a fault that was found.

@@ -1,14 +1,14 @@
 //! The answer to a source that is faulted.
 ghost use Rattle.std.specs.Prelude.{◌≡◌, IfOk};
 ghost use Rattle.std.specs.String.{string_bytes};
-ghost use Rattle.wy_top_answers.specs.Calls.{AnswersFault};
+ghost use Rattle.wy_link_load.specs.wy_top_answers.Calls.{AnswersFault};
 ghost use Rattle.wy_top_source.specs.texts.Refusals as refusals;
 ghost use Rattle.wy_top_probe.specs.Texts as spec;
 
 use std::alloc::{AllocError, Global};
 use wy_link_load::locate;
-use wy_top_answers::report::source_fault;
-use wy_top_answers::{Answer, no_memory, refusal};
+use wy_link_load::wy_top_answers::report::source_fault;
+use wy_link_load::wy_top_answers::{Answer, no_memory, refusal};
 use wy_top_source::texts::{Refusal, is_no_memory, offset, word};
 
 // The line of a fault, at its place in the source.

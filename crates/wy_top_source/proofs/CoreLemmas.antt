@@ -4,9 +4,9 @@ use Rattle.wy_ast.specs.SurfaceSeen.{seen_decl}
 use Rattle.wy_ast.specs.declared.declarations.Program.{Program}
 use Rattle.wy_core.specs.CoreSeen.{seen_core}
 use Rattle.wy_core.specs.declared.declarations.Core.{Core}
-use Rattle.wy_parse_front.specs.Faults as faults
-use Rattle.wy_parse_front.specs.Front as front
-use Rattle.wy_parse_front.specs.declared.fault.SourceFault.{SourceFault}
+use Rattle.wy_print_laws.specs.wy_parse_front.Faults as faults
+use Rattle.wy_print_laws.specs.wy_parse_front.Front as front
+use Rattle.wy_print_laws.specs.wy_parse_front.declared.fault.SourceFault.{SourceFault}
 use Rattle.wy_names.proofs.resolved_lemmas.CoreLemmas.{named_once}
 use Rattle.wy_names.proofs.resolved_lemmas.OnceLemmas.{not_both, refused_once}
 use Rattle.wy_names.specs.Named as named

@@ -2,9 +2,9 @@
 use Rattle.std.proofs.Common.{◌≡◌, ◌≢◌, false, IsTrue, refl, sym, ap, ◌∙◌}
 use Rattle.wy_assign.specs.declared.fault.AssignFault.{AssignFault}
 use Rattle.wy_assign.specs.declared.fault.AssignFault.TheVariants as assign
-use Rattle.wy_parse_front.specs.Faults as front
-use Rattle.wy_parse_front.specs.declared.fault.SourceFault.{SourceFault}
-use Rattle.wy_parse_front.specs.declared.fault.SourceFault.TheVariants as source
+use Rattle.wy_print_laws.specs.wy_parse_front.Faults as front
+use Rattle.wy_print_laws.specs.wy_parse_front.declared.fault.SourceFault.{SourceFault}
+use Rattle.wy_print_laws.specs.wy_parse_front.declared.fault.SourceFault.TheVariants as source
 use Rattle.wy_lemmas.proofs.Choices.{off as not_true}
 use Rattle.wy_names.specs.declared.name_fault.NameFault.{NameFault}
 use Rattle.wy_names.specs.declared.name_fault.NameFault.TheVariants as name

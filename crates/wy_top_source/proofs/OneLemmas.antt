@@ -6,10 +6,10 @@ use Rattle.wy_core.specs.CoreSeen.{seen_core}
 use Rattle.wy_core.specs.declared.declarations.Core.{Core}
 use Rattle.wy_names.proofs.resolved_lemmas.CoreLemmas.{named_once}
 use Rattle.wy_names.specs.Named.{IsNamed}
-use Rattle.wy_parse_front.proofs.wy_lex_proofs.Refusals.{one_reading}
-use Rattle.wy_parse_front.proofs.wy_parse_proofs.ParseRefusals.{one_program}
-use Rattle.wy_parse_front.specs.Front.{Spells}
-use Rattle.wy_parse_front.specs.wy_parse.Derivation.{Derives}
+use Rattle.wy_print_laws.proofs.wy_parse_front_proofs.wy_lex_proofs.Refusals.{one_reading}
+use Rattle.wy_print_laws.proofs.wy_parse_front_proofs.wy_parse_proofs.ParseRefusals.{one_program}
+use Rattle.wy_print_laws.specs.wy_parse_front.Front.{Spells}
+use Rattle.wy_print_laws.specs.wy_parse_front.wy_parse.Derivation.{Derives}
 use Rattle.wy_top_source.specs.Sources.{HasCore, HaveOneCore}
 
 one_spelled : (bytes : List ℕ) (p q : Program) → Spells bytes p → Spells bytes q → q ≡ p

@@ -6,4 +6,4 @@ pub mod texts
 -- passed on to the crates above
 pub use Rattle.wy_assign.specs as wy_assign
 pub use Rattle.wy_ast.specs as wy_ast
-pub use Rattle.wy_parse_front.specs as wy_parse_front
+pub use Rattle.wy_print_laws.specs.wy_parse_front as wy_parse_front

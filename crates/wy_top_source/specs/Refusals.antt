@@ -2,7 +2,7 @@
 use Rattle.std.specs.Prelude.{ℕ, Bool, true, false, List, [], codes}
 use Rattle.wy_assign.specs.declared.fault.AssignFault.{AssignFault}
 use Rattle.wy_assign.specs.declared.fault.AssignFault.TheVariants as assign
-use Rattle.wy_parse_front.specs.Faults as front
+use Rattle.wy_print_laws.specs.wy_parse_front.Faults as front
 use Rattle.wy_names.specs.declared.name_fault.NameFault.{NameFault}
 use Rattle.wy_names.specs.declared.name_fault.NameFault.TheVariants as name
 use Rattle.wy_top_source.specs.declared.refusal.Refusal.{Refusal}

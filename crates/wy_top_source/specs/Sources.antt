@@ -10,7 +10,7 @@ use Rattle.wy_core.specs.declared.declarations.Core.{Core}
 use Rattle.wy_core.specs.formed.Bound.{Bound}
 use Rattle.wy_core.specs.formed.Calls.{Calls}
 use Rattle.wy_core.specs.formed.Recursion.{Recursion}
-use Rattle.wy_parse_front.specs.Front as front
+use Rattle.wy_print_laws.specs.wy_parse_front.Front as front
 use Rattle.wy_names.specs.Named as named
 use Rattle.wy_top_source.specs.declared.refusal.Refusal.{Refusal}
 use Rattle.wy_top_source.specs.declared.refusal.Refusal.TheVariants.{Text, Name, Flow, Assign}

@@ -52,7 +52,7 @@ fn read_core(alloc: Global, source: &[u8]) -> Result<Core, Refusal>
     ensures refused { IfErr result (λ e. is_no_memory e ≡ false → IsRefused source.now e) }
     ensures exact { (f : Refusal) → IsEarly f → IsDue source.now f → MatchResult result (λ c. ⊥) (λ e. is_no_memory e ≡ false → e ≡ f) }
 {
-    let program = match wy_parse_front::read(alloc, source) {
+    let program = match wy_print_laws::wy_parse_front::read(alloc, source) {
         Ok(program) => program,
         Err(fault) => return Err(Refusal::Text(fault)),
     };

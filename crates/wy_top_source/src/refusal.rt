@@ -5,7 +5,7 @@ ghost use Rattle.wy_top_source.specs.Refusals as spec;
 use wy_assign::typed::AssignFault;
 use wy_flow::FlowFault;
 use wy_names::NameFault;
-use wy_parse_front::SourceFault;
+use wy_print_laws::wy_parse_front::SourceFault;
 
 /// Why a source is refused: the fault of the first pass that has one, with the byte offset where it stands.
 #[derive(Clone, Copy, Debug, PartialEq, Eq)]
@@ -25,7 +25,7 @@ pub fn is_no_memory(refusal: Refusal) -> bool
     ensures value { result ≡ spec.is_no_memory refusal }
 {
     match refusal {
-        Refusal::Text(fault) => wy_parse_front::is_no_memory(fault),
+        Refusal::Text(fault) => wy_print_laws::wy_parse_front::is_no_memory(fault),
         Refusal::Name(NameFault::NoMemory)
         | Refusal::Flow(FlowFault::NoMemory)
         | Refusal::Assign(AssignFault::NoMemory) => true,
@@ -38,7 +38,7 @@ pub fn offset(refusal: Refusal) -> u32
     ensures value { result ≡ spec.offset refusal }
 {
     match refusal {
-        Refusal::Text(fault) => wy_parse_front::offset(fault),
+        Refusal::Text(fault) => wy_print_laws::wy_parse_front::offset(fault),
         Refusal::Name(fault) => name_offset(fault),
         Refusal::Flow(fault) => flow_offset(fault),
         Refusal::Assign(fault) => assign_offset(fault),
@@ -50,7 +50,7 @@ pub fn word(refusal: Refusal) -> &'static str
     ensures value { result.now ≡ spec.word refusal }
 {
     match refusal {
-        Refusal::Text(fault) => wy_parse_front::word(fault),
+        Refusal::Text(fault) => wy_print_laws::wy_parse_front::word(fault),
         Refusal::Name(fault) => name_word(fault),
         Refusal::Flow(fault) => flow_word(fault),
         Refusal::Assign(fault) => assign_word(fault),

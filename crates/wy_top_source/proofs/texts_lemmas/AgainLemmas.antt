@@ -1,7 +1,7 @@
 -- The layout of a source is read again as the source's program, and is its own layout.
 use Rattle.std.proofs.Common.{◌≡◌, ℕ, List, refl, subst}
 use Rattle.wy_ast.specs.declared.declarations.Program.{Program}
-use Rattle.wy_parse_front.specs.Front as front
+use Rattle.wy_print_laws.specs.wy_parse_front.Front as front
 use Rattle.wy_print.specs.ProgramText.{program_text}
 use Rattle.wy_print_laws.proofs.round_lemmas.OneProgram.{reads-same}
 use Rattle.wy_print_laws.proofs.round_lemmas.ProgramRound.{reads-again}

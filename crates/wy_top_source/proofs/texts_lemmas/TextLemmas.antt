@@ -5,8 +5,8 @@ use Rattle.wy_code.specs.Listing.{code_text}
 use Rattle.wy_gen.specs.wy_code_spec.compiled.Programs.{code_of}
 use Rattle.wy_core.specs.CoreTree.{Core}
 use Rattle.wy_core.specs.Types.{Ty}
-use Rattle.wy_parse_front.specs.Front as front
-use Rattle.wy_parse_front.specs.declared.fault.SourceFault.{SourceFault}
+use Rattle.wy_print_laws.specs.wy_parse_front.Front as front
+use Rattle.wy_print_laws.specs.wy_parse_front.declared.fault.SourceFault.{SourceFault}
 use Rattle.wy_print.specs.ProgramText.{program_text}
 use Rattle.wy_top_source.proofs.CoreLemmas.{Reads, Faults, text_exact, unread}
 use Rattle.wy_top_source.specs.Refusals.{is_no_memory}

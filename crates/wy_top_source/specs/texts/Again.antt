@@ -1,7 +1,7 @@
 -- What the layout of a source is read as: the program of the source, places aside.
 use Rattle.std.specs.Prelude.{◌≡◌, ℕ, List, ⊤}
 use Rattle.wy_ast.specs.declared.declarations.Program.{Program}
-use Rattle.wy_parse_front.specs.Front as front
+use Rattle.wy_print_laws.specs.wy_parse_front.Front as front
 use Rattle.wy_print.specs.ProgramText.{program_text}
 use Rattle.wy_print_laws.specs.round.ReadAgain.{IsSame}
 use Rattle.wy_top_source.specs.texts.Texts.{IsLayout}

@@ -5,7 +5,7 @@ use Rattle.wy_code.specs.Listing.{code_text}
 use Rattle.wy_gen.specs.wy_code_spec.compiled.Programs.{code_of}
 use Rattle.wy_core.specs.CoreTree.{Core}
 use Rattle.wy_core.specs.Types.{Ty}
-use Rattle.wy_parse_front.specs.Front as front
+use Rattle.wy_print_laws.specs.wy_parse_front.Front as front
 use Rattle.wy_print.specs.ProgramText.{program_text}
 use Rattle.wy_top_source.specs.Sources as sources
 use Rattle.wy_top_source.specs.declared.refusal.Refusal.{Refusal}

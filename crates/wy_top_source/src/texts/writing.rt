@@ -10,8 +10,8 @@ use crate::texts::kind::Kind;
 use crate::{Refusal, read_program};
 use std::alloc::Global;
 use wy_gen::typed::listing;
-use wy_parse_front::{SourceFault, read};
 use wy_print::print;
+use wy_print_laws::wy_parse_front::{SourceFault, read};
 
 /// The text of this kind that the source has, or the first refusal: of a layout, tokens and program are read; of a listing,
 /// names, types and assignment besides. A layout is read again as the same program, places aside, and is its own layout.

@@ -1,6 +1,6 @@
 use Rattle.std.proofs.Common.{◌≡◌, ◌∙◌, ◌++◌, ℕ, List, length, map, true, false, rules, subst}
-use Rattle.wy_top_answers.specs.Answers.{IsRefusal}
-use Rattle.wy_top_answers.proofs.StepLemmas.{memory_gives}
+use Rattle.wy_top_probe.specs.wy_top_answers.Answers.{IsRefusal}
+use Rattle.wy_top_probe.proofs.wy_top_answers_proofs.StepLemmas.{memory_gives}
 use Rattle.wy_top.specs.Owed.{told_by}
 use Rattle.wy_top.specs.Refusals.{invalid_lines, refusal_lines}
 use Rattle.wy_batch.specs.Seen.{known}

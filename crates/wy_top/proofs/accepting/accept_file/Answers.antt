@@ -1,8 +1,8 @@
 use Rattle.std.proofs.Common.{ℕ, List, subst}
 use Rattle.wy_top_probe.specs.wy_link_load.Alone.{loads_alone}
-use Rattle.wy_top_answers.specs.Steps.{came, Gives}
-use Rattle.wy_top_answers.proofs.DuringLemmas.{during_first, during_second}
-use Rattle.wy_top_answers.proofs.StepLemmas.{goes, ends_there}
+use Rattle.wy_top_probe.specs.wy_top_answers.Steps.{came, Gives}
+use Rattle.wy_top_probe.proofs.wy_top_answers_proofs.DuringLemmas.{during_first, during_second}
+use Rattle.wy_top_probe.proofs.wy_top_answers_proofs.StepLemmas.{goes, ends_there}
 use Rattle.wy_top.specs.Acceptance.{accepts_source}
 use Rattle.wy_top.specs.Kept.{acceptance_in}
 use Rattle.wy_top.proofs.accepting.accept_file.Goals as goal

@@ -1,6 +1,6 @@
 use Rattle.std.proofs.Common.{sym, subst}
 use Rattle.wy_cert.specs.Steps.{certificates_of}
-use Rattle.wy_top_answers.proofs.StepLemmas.{memory_gives}
+use Rattle.wy_top_probe.proofs.wy_top_answers_proofs.StepLemmas.{memory_gives}
 use Rattle.wy_top.specs.Acceptance.{accepts}
 use Rattle.wy_top.specs.Kept.{HasVerdicts, IsOfSource, program_in}
 use Rattle.wy_top.specs.Programs.{Program}

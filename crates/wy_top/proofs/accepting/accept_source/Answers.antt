@@ -1,5 +1,5 @@
-use Rattle.wy_top_answers.specs.Steps.{came}
-use Rattle.wy_top_answers.proofs.StepLemmas.{goes, ends_there}
+use Rattle.wy_top_probe.specs.wy_top_answers.Steps.{came}
+use Rattle.wy_top_probe.proofs.wy_top_answers_proofs.StepLemmas.{goes, ends_there}
 use Rattle.wy_top.specs.Acceptance.{accepts_with}
 use Rattle.wy_top.specs.Kept.{acceptance_in, program_in}
 use Rattle.wy_top.specs.Programs.{owes}

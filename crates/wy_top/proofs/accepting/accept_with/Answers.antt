@@ -1,9 +1,9 @@
 use Rattle.std.proofs.Common.{◌≡◌, ◌∙◌, ℕ, length, Ok, Err, rules, subst}
 use Rattle.wy_top.proofs.LengthLemmas.{same_count}
 use Rattle.wy_cert.specs.Steps.{certificates_of}
-use Rattle.wy_top_answers.specs.Steps.{both, came, Gives}
-use Rattle.wy_top_answers.proofs.StepLemmas.{goes, ends_there}
-use Rattle.wy_top_answers.specs.supplied.Certificates.{certificates}
+use Rattle.wy_top_probe.specs.wy_top_answers.Steps.{both, came, Gives}
+use Rattle.wy_top_probe.proofs.wy_top_answers_proofs.StepLemmas.{goes, ends_there}
+use Rattle.wy_top_probe.specs.wy_top_answers.supplied.Certificates.{certificates}
 use Rattle.wy_top.specs.Acceptance.{accepts}
 use Rattle.wy_top.specs.Kept.{acceptance_in, program_in}
 use Rattle.wy_top.specs.Programs.{count_of}

@@ -1,8 +1,8 @@
 use Rattle.std.proofs.Common.{◌≡◌, ◌⊎◌, inl, inr, sym, subst}
-use Rattle.wy_top_answers.specs.Steps.{Answers, Setting, done, Gives}
-use Rattle.wy_top_answers.specs.declared.answer.Answer.{Answer}
-use Rattle.wy_top_answers.specs.Answers.{no_memory}
-use Rattle.wy_top_answers.proofs.AnswerLemmas.{ends_answers, value_answers, memory_answers}
+use Rattle.wy_top_probe.specs.wy_top_answers.Steps.{Answers, Setting, done, Gives}
+use Rattle.wy_top_probe.specs.wy_top_answers.declared.answer.Answer.{Answer}
+use Rattle.wy_top_probe.specs.wy_top_answers.Answers.{no_memory}
+use Rattle.wy_top_probe.proofs.wy_top_answers_proofs.AnswerLemmas.{ends_answers, value_answers, memory_answers}
 use Rattle.wy_top.specs.Acceptance.{Acceptance, accepts_file, check_steps, checked_answer}
 use Rattle.wy_top.specs.Kept.{acceptance_in}
 use Rattle.wy_top.proofs.checking.check.Goals as goal

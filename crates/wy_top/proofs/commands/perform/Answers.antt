@@ -1,6 +1,6 @@
 use Rattle.std.proofs.Common.{◌∙◌, Some, Ok, Err, subst}
-use Rattle.wy_top_answers.specs.Steps.{setting}
-use Rattle.wy_top_answers.proofs.DuringLemmas.{during_itself}
+use Rattle.wy_top_probe.specs.wy_top_answers.Steps.{setting}
+use Rattle.wy_top_probe.proofs.wy_top_answers_proofs.DuringLemmas.{during_itself}
 use Rattle.wy_top.proofs.SaveLemmas.{during_before, saves_from}
 use Rattle.wy_top.specs.Statement.{IsKeptBy}
 use Rattle.wy_top_words.specs.Plain.{asked_in}

@@ -10,9 +10,9 @@ use Rattle.wy_term.specs.declared.cond.Cond.{Cond}
 use Rattle.wy_top.proofs.ConditionLemmas.{formed_each}
 use Rattle.wy_top.proofs.LengthLemmas.{same_count}
 use Rattle.wy_top.specs.Kept.{program_in}
-use Rattle.wy_top_answers.proofs.wy_vc_laws_proofs.folded_lemmas.OwedLemmas.{conditions_folded}
-use Rattle.wy_top_answers.specs.wy_vc_laws.folded.FoldedConditions.{AreFoldedThroughout}
-use Rattle.wy_top_answers.specs.wy_vc_laws.shown.Certified.{AreFormed}
+use Rattle.wy_top_probe.proofs.wy_top_answers_proofs.wy_vc_laws_proofs.folded_lemmas.OwedLemmas.{conditions_folded}
+use Rattle.wy_top_probe.specs.wy_top_answers.wy_vc_laws.folded.FoldedConditions.{AreFoldedThroughout}
+use Rattle.wy_top_probe.specs.wy_top_answers.wy_vc_laws.shown.Certified.{AreFormed}
 use Rattle.wy_vc.specs.Told.{seen_cond}
 use Rattle.wy_vc.specs.wy_vc_spec.Limits.{most_conditions}
 use Rattle.wy_top.proofs.judging.judge_all.Goals as goal

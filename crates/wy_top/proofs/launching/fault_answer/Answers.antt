@@ -1,6 +1,6 @@
 use Rattle.std.proofs.Common.{◌∙◌, ◌++◌, ℕ, Bool, sym, subst}
-use Rattle.wy_top_answers.specs.Answers.{IsRefusal}
-use Rattle.wy_top_answers.specs.Calls.{AnswersFault}
+use Rattle.wy_top_probe.specs.wy_top_answers.Answers.{IsRefusal}
+use Rattle.wy_top_probe.specs.wy_top_answers.Calls.{AnswersFault}
 use Rattle.wy_top.specs.Launching.{fault_line, fault_status}
 use Rattle.wy_top.proofs.launching.fault_answer.Goals as goal
 

@@ -1,4 +1,4 @@
-use Rattle.wy_top_answers.proofs.StepLemmas.{goes, ends_there}
+use Rattle.wy_top_probe.proofs.wy_top_answers_proofs.StepLemmas.{goes, ends_there}
 use Rattle.wy_top.specs.Acceptance.{accepts_file}
 use Rattle.wy_top.specs.Kept.{acceptance_in}
 use Rattle.wy_top.specs.Launching.{starts}

@@ -1,7 +1,7 @@
 use Rattle.std.proofs.Common.{ℕ, List, Ok, Err, subst}
 use Rattle.wy_top_probe.proofs.wy_mach_run_proofs.CanRunLemmas.{starts_can}
 use Rattle.wy_top.proofs.CodeLemmas.{source_loadable}
-use Rattle.wy_top_answers.specs.Steps.{Gives}
+use Rattle.wy_top_probe.specs.wy_top_answers.Steps.{Gives}
 use Rattle.wy_top.specs.Kept.{acceptance_in}
 use Rattle.wy_top.specs.Launching.{starts}
 use Rattle.wy_top.proofs.LaunchLemmas.{starts_value, starts_fault}

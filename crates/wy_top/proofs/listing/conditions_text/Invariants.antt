@@ -1,5 +1,5 @@
 use Rattle.std.proofs.Common.{◌≡◌, ◌++◌, suc, drop, map}
-use Rattle.wy_top_answers.specs.report.Shown.{AreShown}
+use Rattle.wy_top_probe.specs.wy_top_answers.report.Shown.{AreShown}
 use Rattle.wy_vc.specs.Told.{seen_cond}
 use Rattle.wy_top.specs.Owed.{conditions_text}
 use Rattle.wy_top.proofs.listing.conditions_text.Given as goal

@@ -1,5 +1,5 @@
-use Rattle.wy_top_answers.specs.supplied.Certificates.{no_file}
-use Rattle.wy_top_answers.proofs.AnswerLemmas.{ends_answers, then_answers}
+use Rattle.wy_top_probe.specs.wy_top_answers.supplied.Certificates.{no_file}
+use Rattle.wy_top_probe.proofs.wy_top_answers_proofs.AnswerLemmas.{ends_answers, then_answers}
 use Rattle.wy_top.specs.Acceptance.{accepts_source}
 use Rattle.wy_top.specs.Kept.{acceptance_in}
 use Rattle.wy_top.specs.Large.{large_name, runs}

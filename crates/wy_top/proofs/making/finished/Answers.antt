@@ -1,9 +1,9 @@
 use Rattle.std.proofs.Common.{◌≡◌, ℕ, List, Some, sym, ap, subst}
 use Rattle.std.specs.Prelude.{IfOk}
 use Rattle.std.specs.String.{string_bytes}
-use Rattle.wy_top_answers.proofs.AnswerLemmas.{memory_answers}
+use Rattle.wy_top_probe.proofs.wy_top_answers_proofs.AnswerLemmas.{memory_answers}
 use Rattle.wy_port.specs.SinkInMemory.{SinkState}
-use Rattle.wy_top_answers.specs.report.Lines.{steps_spent}
+use Rattle.wy_top_probe.specs.wy_top_answers.report.Lines.{steps_spent}
 use Rattle.wy_top_probe.specs.wy_mach_run.Running.{state_of}
 use Rattle.wy_top_probe.specs.wy_mach_run.declared.end.RunEnd.{RunEnd}
 use Rattle.wy_top.specs.Large.{IsLine, finishes}

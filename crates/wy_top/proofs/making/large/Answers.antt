@@ -1,6 +1,6 @@
 use Rattle.std.proofs.Common.{ℕ, subst}
-use Rattle.wy_top_answers.specs.Steps.{Answers}
-use Rattle.wy_top_answers.proofs.AnswerLemmas.{memory_answers}
+use Rattle.wy_top_probe.specs.wy_top_answers.Steps.{Answers}
+use Rattle.wy_top_probe.proofs.wy_top_answers_proofs.AnswerLemmas.{memory_answers}
 use Rattle.wy_top.specs.Large.{big_steps}
 use Rattle.wy_top.proofs.making.large.Goals as goal
 

@@ -1,6 +1,6 @@
 use Rattle.std.proofs.Common.{ℕ, List, subst}
-use Rattle.wy_top_answers.specs.Steps.{Answers}
-use Rattle.wy_top_answers.proofs.AnswerLemmas.{ends_answers, then_answers}
+use Rattle.wy_top_probe.specs.wy_top_answers.Steps.{Answers}
+use Rattle.wy_top_probe.proofs.wy_top_answers_proofs.AnswerLemmas.{ends_answers, then_answers}
 use Rattle.wy_top.specs.Large.{accepts_and_runs, makes}
 use Rattle.wy_top.proofs.making.large_of.Goals as goal
 

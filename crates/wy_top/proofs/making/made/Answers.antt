@@ -1,6 +1,6 @@
 use Rattle.std.proofs.Common.{◌≡◌, ◌≤◌, ◌<◌, ℕ, List, length, ap, arith, rules}
-use Rattle.wy_top_answers.proofs.StepLemmas.{memory_gives}
-use Rattle.wy_top_answers.specs.Loading.{source_limit}
+use Rattle.wy_top_probe.proofs.wy_top_answers_proofs.StepLemmas.{memory_gives}
+use Rattle.wy_top_probe.specs.wy_top_answers.Loading.{source_limit}
 use Rattle.wy_top_big.specs.Source.{source_of}
 use Rattle.wy_top.specs.Large.{makes}
 use Rattle.wy_top.proofs.LargeLemmas.{makes_value, makes_long}

@@ -1,7 +1,7 @@
 use Rattle.std.proofs.Common.{◌∙◌, ℕ, List, Ok, Err, subst}
 use Rattle.wy_top_big.specs.Source.{argument_text, entry}
-use Rattle.wy_top_answers.specs.Steps.{Answers, Gives}
-use Rattle.wy_top_answers.proofs.AnswerLemmas.{ends_answers, memory_answers, then_answers}
+use Rattle.wy_top_probe.specs.wy_top_answers.Steps.{Answers, Gives}
+use Rattle.wy_top_probe.proofs.wy_top_answers_proofs.AnswerLemmas.{ends_answers, memory_answers, then_answers}
 use Rattle.wy_top.specs.Kept.{acceptance_in}
 use Rattle.wy_top.specs.Programs.{count_of}
 use Rattle.wy_top.specs.Large.{finishes, runs}

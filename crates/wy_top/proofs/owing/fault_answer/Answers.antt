@@ -1,5 +1,5 @@
 use Rattle.std.proofs.Common.{◌∙◌, Bool, sym, subst}
-use Rattle.wy_top_answers.specs.Calls.{AnswersFault}
+use Rattle.wy_top_probe.specs.wy_top_answers.Calls.{AnswersFault}
 use Rattle.wy_top.specs.Programs.{fault_lines}
 use Rattle.wy_top.proofs.owing.fault_answer.Goals as goal
 

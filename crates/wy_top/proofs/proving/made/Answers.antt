@@ -1,5 +1,5 @@
 use Rattle.std.proofs.Common.{◌<◌, ◌^◌, All, List, length, map, sym, subst, arith}
-use Rattle.wy_top_answers.proofs.StepLemmas.{memory_gives}
+use Rattle.wy_top_probe.proofs.wy_top_answers_proofs.StepLemmas.{memory_gives}
 use Rattle.wy_cert.specs.Steps.{certificates_of}
 use Rattle.wy_prove.specs.Answers.{IsFormedThroughout}
 use Rattle.wy_term.specs.Condition.{condition_of}

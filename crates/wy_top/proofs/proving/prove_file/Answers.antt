@@ -3,8 +3,8 @@ use Rattle.std.proofs.lemmas.Result.{IfOk-weaker}
 use Rattle.std.specs.Prelude.{IfOk}
 use Rattle.wy_top_probe.specs.wy_link_load.Alone.{loads_alone}
 use Rattle.wy_top_probe.proofs.wy_link_load_proofs.AloneLemmas.{takes_nothing}
-use Rattle.wy_top_answers.specs.Steps.{came, Gives}
-use Rattle.wy_top_answers.proofs.StepLemmas.{goes, ends_there, stated_value}
+use Rattle.wy_top_probe.specs.wy_top_answers.Steps.{came, Gives}
+use Rattle.wy_top_probe.proofs.wy_top_answers_proofs.StepLemmas.{goes, ends_there, stated_value}
 use Rattle.wy_top.specs.Kept.{answer_in}
 use Rattle.wy_top.specs.Proofs.{Proves, ProvesBytes, proves_source}
 use Rattle.wy_top.specs.declared.proving.Proof.{Proof}

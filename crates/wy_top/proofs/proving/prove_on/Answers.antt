@@ -1,6 +1,6 @@
 use Rattle.std.proofs.Common.{◌≡◌, [], rules, subst}
 use Rattle.wy_cert.specs.Steps.{certificates_of, Certificates}
-use Rattle.wy_top_answers.proofs.StepLemmas.{memory_gives}
+use Rattle.wy_top_probe.proofs.wy_top_answers_proofs.StepLemmas.{memory_gives}
 use Rattle.wy_top.specs.Kept.{program_in, HasVerdicts}
 use Rattle.wy_top.specs.Proofs.{judges}
 use Rattle.wy_top.proofs.proving.prove_on.Goals as goal

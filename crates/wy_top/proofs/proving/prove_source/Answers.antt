@@ -1,6 +1,6 @@
 use Rattle.std.proofs.lemmas.Result.{IfOk-weaker}
-use Rattle.wy_top_answers.specs.Steps.{came}
-use Rattle.wy_top_answers.proofs.StepLemmas.{goes, ends_there}
+use Rattle.wy_top_probe.specs.wy_top_answers.Steps.{came}
+use Rattle.wy_top_probe.proofs.wy_top_answers_proofs.StepLemmas.{goes, ends_there}
 use Rattle.wy_top.specs.Kept.{answer_in, program_in}
 use Rattle.wy_top.specs.Programs.{owes}
 use Rattle.wy_top.specs.Proofs.{IsProofFile, ProvesBytes, judges}

@@ -1,4 +1,4 @@
-use Rattle.wy_top_answers.specs.Texts.{not_certified}
+use Rattle.wy_top_probe.specs.wy_top_answers.Texts.{not_certified}
 use Rattle.wy_top.proofs.proving.uncertified.Goals as goal
 
 pub returns : goal.returns

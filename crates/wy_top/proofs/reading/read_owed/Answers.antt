@@ -1,4 +1,4 @@
-use Rattle.wy_flow_spec.specs.typing.TypedPrograms.{core_of, flow_of}
+use Rattle.wy_top_probe.specs.wy_flow_spec.typing.TypedPrograms.{core_of, flow_of}
 use Rattle.wy_top.proofs.ConditionLemmas.{are_few, are_formed, are_within, conditions_are}
 use Rattle.wy_top.proofs.OwedLemmas.{assigned, limit_complete, limit_exact, limit_refused, owes, owes_exact, owes_only, unread_complete, unread_exact}
 use Rattle.wy_top.proofs.reading.read_owed.Goals as goal

@@ -1,10 +1,10 @@
 use Rattle.std.proofs.Common.{◌≡◌, ◌⊎◌, ℕ, List, Err, inl, inr, subst, ap}
 use Rattle.wy_port.specs.declared.files.SaveFault.{SaveFault}
-use Rattle.wy_top_answers.specs.Answers.{IsRefusal, no_memory as lacks_memory, refused}
-use Rattle.wy_top_answers.specs.Showing.{Shown, Sinks}
-use Rattle.wy_top_answers.specs.declared.answer.Answer.{Answer}
+use Rattle.wy_top_probe.specs.wy_top_answers.Answers.{IsRefusal, no_memory as lacks_memory, refused}
+use Rattle.wy_top_probe.specs.wy_top_answers.Showing.{Shown, Sinks}
+use Rattle.wy_top_probe.specs.wy_top_answers.declared.answer.Answer.{Answer}
 use Rattle.wy_port.specs.Told.{IsSaved}
-use Rattle.wy_top_answers.specs.report.Lines.{save_failed}
+use Rattle.wy_top_probe.specs.wy_top_answers.report.Lines.{save_failed}
 use Rattle.wy_top.specs.Saves.{whole, failed, no_memory}
 use Rattle.wy_top.proofs.saving.save.Goals as goal
 

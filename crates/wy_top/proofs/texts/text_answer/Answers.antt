@@ -1,6 +1,6 @@
-use Rattle.wy_top_answers.specs.Answers.{written}
-use Rattle.wy_top_answers.specs.Steps.{done}
-use Rattle.wy_top_answers.proofs.AnswerLemmas.{ends_answers, value_answers}
+use Rattle.wy_top_probe.specs.wy_top_answers.Answers.{written}
+use Rattle.wy_top_probe.specs.wy_top_answers.Steps.{done}
+use Rattle.wy_top_probe.proofs.wy_top_answers_proofs.AnswerLemmas.{ends_answers, value_answers}
 use Rattle.wy_top.specs.Texts.{text_in}
 use Rattle.wy_top.proofs.texts.text_answer.Goals as goal
 

@@ -1,6 +1,6 @@
 use Rattle.std.proofs.Common.{ℕ, List, subst}
-use Rattle.wy_top_answers.specs.Steps.{Gives}
-use Rattle.wy_top_answers.proofs.StepLemmas.{goes, ends_there}
+use Rattle.wy_top_probe.specs.wy_top_answers.Steps.{Gives}
+use Rattle.wy_top_probe.proofs.wy_top_answers_proofs.StepLemmas.{goes, ends_there}
 use Rattle.wy_top.specs.Texts.{source_for, text}
 use Rattle.wy_top.proofs.texts.text_in.Goals as goal
 

@@ -1,5 +1,5 @@
 use Rattle.std.proofs.Common.{arith}
-use Rattle.wy_flow_spec.specs.typing.TypedPrograms.{core_of, flow_of}
+use Rattle.wy_top_probe.specs.wy_flow_spec.typing.TypedPrograms.{core_of, flow_of}
 use Rattle.wy_vc.specs.Listed.{seen_conds}
 use Rattle.wy_top.proofs.OwedLemmas.{text_complete, text_is, textless}
 use Rattle.wy_top.proofs.writing.owed_text.Goals as goal

@@ -1,10 +1,10 @@
 use Rattle.std.proofs.Common.{◌≡◌, ◌∙◌, ℕ, List, map, ap, subst}
 use Rattle.wy_core.specs.CoreSeen.{seen_decl}
 use Rattle.wy_core.specs.CoreTree.{Core, routines_of}
-use Rattle.wy_flow_spec.specs.typing.TypedPrograms.{core_of}
+use Rattle.wy_mach_run.specs.wy_flow_spec.typing.TypedPrograms.{core_of}
 use Rattle.wy_mach_run.specs.Entries.{HasEntry, HasNoEntry, HasNone}
-use Rattle.wy_top_answers.specs.report.Lines.{no_entry}
-use Rattle.wy_top_answers.proofs.StepLemmas.{memory_gives}
+use Rattle.wy_link_load.specs.wy_top_answers.report.Lines.{no_entry}
+use Rattle.wy_link_load.proofs.wy_top_answers_proofs.StepLemmas.{memory_gives}
 use Rattle.wy_top_probe.specs.Probing.{enters}
 use Rattle.wy_top_probe.proofs.ProbeLemmas.{entry_fault, entry_value}
 use Rattle.wy_top_probe.proofs.probing.entry_in.Goals as goal

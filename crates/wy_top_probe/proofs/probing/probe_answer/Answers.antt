@@ -1,7 +1,7 @@
 use Rattle.std.proofs.Common.{ℕ, List, subst}
 use Rattle.wy_link_load.specs.Alone.{loads_alone}
-use Rattle.wy_top_answers.specs.Steps.{Answers}
-use Rattle.wy_top_answers.proofs.AnswerLemmas.{ends_answers, then_answers}
+use Rattle.wy_link_load.specs.wy_top_answers.Steps.{Answers}
+use Rattle.wy_link_load.proofs.wy_top_answers_proofs.AnswerLemmas.{ends_answers, then_answers}
 use Rattle.wy_top_probe.specs.Probing.{probes_source}
 use Rattle.wy_top_probe.proofs.probing.probe_answer.Goals as goal
 

@@ -1,5 +1,5 @@
-use Rattle.wy_flow_spec.specs.typing.TypedPrograms.{core_of, flow_of}
-use Rattle.wy_top_answers.proofs.AnswerLemmas.{ends_answers, then_answers}
+use Rattle.wy_mach_run.specs.wy_flow_spec.typing.TypedPrograms.{core_of, flow_of}
+use Rattle.wy_link_load.proofs.wy_top_answers_proofs.AnswerLemmas.{ends_answers, then_answers}
 use Rattle.wy_top_probe.specs.Probing.{Checked, checked, enters, probes, reads, then_probes}
 use Rattle.wy_top_probe.proofs.probing.probe_source.Goals as goal
 

@@ -1,6 +1,6 @@
-use Rattle.wy_flow_spec.specs.typing.TypedPrograms.{core_of}
+use Rattle.wy_mach_run.specs.wy_flow_spec.typing.TypedPrograms.{core_of}
 use Rattle.wy_probe.specs.Trials.{seen_end}
-use Rattle.wy_top_answers.proofs.AnswerLemmas.{memory_answers}
+use Rattle.wy_link_load.proofs.wy_top_answers_proofs.AnswerLemmas.{memory_answers}
 use Rattle.wy_top_probe.specs.Probing.{probes}
 use Rattle.wy_top_probe.proofs.ProbeLemmas.{found_answers}
 use Rattle.wy_top_probe.proofs.probing.probed.Goals as goal

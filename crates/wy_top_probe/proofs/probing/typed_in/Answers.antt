@@ -1,6 +1,6 @@
 use Rattle.std.proofs.Common.{ap₂}
-use Rattle.wy_flow_spec.specs.typing.TypedPrograms.{core_of, flow_of}
-use Rattle.wy_top_answers.proofs.CallLemmas.{called_fault, called_value}
+use Rattle.wy_mach_run.specs.wy_flow_spec.typing.TypedPrograms.{core_of, flow_of}
+use Rattle.wy_link_load.proofs.wy_top_answers_proofs.CallLemmas.{called_fault, called_value}
 use Rattle.wy_top_source.specs.Sources.{IsProgram}
 use Rattle.wy_top_source.specs.declared.texts.kind.Kind.TheVariants.{Listing}
 use Rattle.wy_top_probe.specs.Probing.{checked}

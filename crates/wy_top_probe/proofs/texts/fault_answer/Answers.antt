@@ -1,5 +1,5 @@
 use Rattle.std.proofs.Common.{◌∙◌, Bool, sym, subst}
-use Rattle.wy_top_answers.specs.Calls.{AnswersFault}
+use Rattle.wy_link_load.specs.wy_top_answers.Calls.{AnswersFault}
 use Rattle.wy_top_probe.specs.Texts.{fault_lines}
 use Rattle.wy_top_probe.proofs.texts.fault_answer.Goals as goal
 
