@@ -21,12 +21,12 @@ pub fn perform<F: Files, O: Sink, E: Sink>(
         Words::Explain {
             source,
             condition,
-            all,
+            style,
             budget,
         } => {
             let asked = Asked {
                 condition,
-                all,
+                style,
                 budget,
             };
             match files.load(alloc, source, LARGEST) {

@@ -6,10 +6,11 @@ use crate::judged::judged;
 use crate::passes::{Passes, Refused, typed_program};
 use std::alloc::Global;
 use wy_explain::{
-    Cond, Conds, Finding, NoMemory, OpenCase, Owed, Page, Program, Seen, Source, finding_of,
-    open_finding, put_faults, put_finding, put_spent, read,
+    Cond, Conds, Finding, NoMemory, OpenCase, Owed, Page, Program, Seen, Source, Style, finding_of,
+    open_finding, put_faults, put_spent, put_styled,
 };
 use wy_flow::Typed;
+use wy_parse_front::read;
 use wy_search::{OpenLeaf, Verdict, Why};
 use wy_vc::{VcFault, conditions};
 
@@ -18,8 +19,7 @@ use wy_vc::{VcFault, conditions};
 pub struct Asked {
     /// The number of a condition, from 1; 0 for the whole source.
     pub condition: u64,
-    /// Whether each fact of an open case is shown, whole.
-    pub all: bool,
+    pub style: Style,
     /// The budget of leaves of a search.
     pub budget: u64,
 }
@@ -54,7 +54,7 @@ pub fn explain(
     };
     let seen = Seen::of(alloc, source, program.as_ref())?;
     match import_of(program.as_ref()) {
-        Some(at) => return imported(alloc, &seen, at),
+        Some(at) => return imported(alloc, &seen, at, asked),
         None => {}
     }
     match typed_program(alloc, bytes) {
@@ -62,7 +62,7 @@ pub fn explain(
         Err(Refused::NoMemory) => Err(NoMemory),
         Err(Refused::Fault(fault)) => {
             let mut page = Page::new(alloc);
-            put_faults(alloc, &mut page, &seen, &Passes, fault, asked.all)?;
+            put_faults(alloc, &mut page, &seen, &Passes, fault, asked.style)?;
             Ok(Explained {
                 status: 1,
                 text: page.into_vec(),
@@ -83,7 +83,7 @@ fn import_of(program: Option<&Program>) -> Option<u32> {
 }
 
 // Explains that imports aren't taken yet.
-fn imported(alloc: Global, seen: &Seen, at: u32) -> Result<Explained, NoMemory> {
+fn imported(alloc: Global, seen: &Seen, at: u32, asked: Asked) -> Result<Explained, NoMemory> {
     let span = seen.mark_at(at);
     let mut finding = Finding::new(alloc, "Unknown", at, span);
     finding
@@ -92,7 +92,7 @@ fn imported(alloc: Global, seen: &Seen, at: u32) -> Result<Explained, NoMemory> 
     finding.message.code(seen.text(span))?;
     finding.message.text(" declares isn't known here. Put all declarations into one source.")?;
     let mut page = Page::new(alloc);
-    put_finding(&mut page, &seen.source, &finding, false)?;
+    put_styled(&mut page, &seen.source, &finding, asked.style)?;
     Ok(Explained {
         status: 1,
         text: page.into_vec(),
@@ -110,7 +110,7 @@ fn explain_typed(
         Ok(conds) => explain_conditions(alloc, seen, typed, conds, asked),
         Err(fault) => {
             let mut page = Page::new(alloc);
-            unseen_limit(alloc, &mut page, seen, fault)?;
+            unseen_limit(alloc, &mut page, seen, fault, asked.style)?;
             Ok(Explained {
                 status: 1,
                 text: page.into_vec(),
@@ -153,11 +153,13 @@ fn explain_conditions(
     };
     let mut page = Page::new(alloc);
     let is_one = asked.condition > 0;
-    if is_one && asked.condition > list.len() as u64 {
+    if is_one && asked.condition > list.len() as u64 && asked.style != Style::Json {
         page.text("There is no such condition. ")?;
     }
     put_verdicts(alloc, &mut page, &owed, verdicts, asked)?;
-    put_sum(&mut page, list.len() as u64, open, spent)?;
+    if asked.style != Style::Json {
+        put_sum(&mut page, list.len() as u64, open, spent)?;
+    }
     let status = if open == 0 && spent == 0 { 0 } else { 1 };
     Ok(Explained {
         status,
@@ -203,7 +205,7 @@ fn put_verdicts(
         if !is_meant || (is_found && asked.condition == 0) {
             continue;
         }
-        if asked.condition > 0 || told < WHOLE {
+        if asked.condition > 0 || told < WHOLE || asked.style == Style::Json {
             put_whole(
                 alloc,
                 page,
@@ -241,7 +243,14 @@ fn put_whole(
 ) -> Result<(), NoMemory> {
     let finding = match verdict {
         Verdict::Found(_) => shown_finding(alloc, owed, number, cond)?,
-        Verdict::Open(leaf) => open_finding(alloc, owed, number, cond, case_of(leaf), asked.all)?,
+        Verdict::Open(leaf) => open_finding(
+            alloc,
+            owed,
+            number,
+            cond,
+            case_of(leaf),
+            asked.style == Style::Whole,
+        )?,
         Verdict::Spent => {
             let mut finding = finding_of(alloc, owed, number, cond, "spent")?;
             put_spent(
@@ -255,7 +264,7 @@ fn put_whole(
             finding
         }
     };
-    put_finding(page, &owed.seen.source, &finding, asked.all)
+    put_styled(page, &owed.seen.source, &finding, asked.style)
 }
 
 // The open case of a leaf.
@@ -345,6 +354,7 @@ fn unseen_limit(
     page: &mut Page,
     seen: &Seen,
     fault: VcFault,
+    style: Style,
 ) -> Result<(), NoMemory> {
     let span = seen.mark_at(0);
     let mut finding = match fault {
@@ -364,5 +374,5 @@ fn unseen_limit(
             "The program owes more than 16,384 conditions. Divide it into sources.",
         )?,
     }
-    put_finding(page, &seen.source, &finding, false)
+    put_styled(page, &seen.source, &finding, style)
 }

@@ -2,11 +2,10 @@
 use std::alloc::Global;
 use wy_assign::AssignFault;
 use wy_assign::typed::assigned;
-use wy_explain::{
-    Checker, Fault, NoMemory, Page, Pass, SourceFault, is_no_memory, offset, put_ty, read, word,
-};
+use wy_explain::{Checker, Fault, NoMemory, Page, Pass, put_ty};
 use wy_flow::{FlowFault, Typed, check};
 use wy_names::{NameFault, resolve};
+use wy_parse_front::{SourceFault, is_no_memory, offset, read, word};
 
 /// Why a source has no such program.
 #[derive(Clone, Copy, Debug)]
@@ -91,6 +90,21 @@ fn of_paths(fault: AssignFault) -> Refused {
 pub struct Passes;
 
 impl Checker for Passes {
+    fn unread(&self, alloc: Global, bytes: &[u8]) -> Result<Option<u32>, NoMemory> {
+        if bytes.len() >= u32::MAX as usize {
+            return Err(NoMemory);
+        }
+        match read(alloc, bytes) {
+            Ok(_) => Ok(None),
+            Err(fault) => {
+                if is_no_memory(fault) {
+                    return Err(NoMemory);
+                }
+                Ok(Some(offset(fault)))
+            }
+        }
+    }
+
     fn fault(&self, alloc: Global, bytes: &[u8]) -> Result<Option<Fault>, NoMemory> {
         match typed_program(alloc, bytes) {
             Ok(_) => Ok(None),

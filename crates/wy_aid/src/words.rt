@@ -1,4 +1,5 @@
 //! The words of the command line.
+use wy_explain::Style;
 
 /// What the words ask for.
 #[derive(Clone, Copy, Debug, PartialEq, Eq)]
@@ -9,7 +10,7 @@ pub enum Words<'a> {
     Explain {
         source: &'a str,
         condition: u64,
-        all: bool,
+        style: Style,
         budget: u64,
     },
     /// No command of this program.
@@ -25,7 +26,7 @@ const MOST: u64 = 1_000_000;
 /// The most digits of a number.
 const DIGITS: usize = 7;
 
-/// What the words behind the program's own name ask for: `help`, or `explain SRC [CONDITION] [--all] [--budget N]` with the options
+/// What the words behind the program's own name ask for: `help`, or `explain SRC [CONDITION] [--all | --json] [--budget N]` with the options
 /// anywhere behind the command.
 pub fn words_of<'a>(words: &'a [String]) -> Words<'a> {
     let [command, rest @ ..] = words else {
@@ -49,7 +50,7 @@ pub fn words_of<'a>(words: &'a [String]) -> Words<'a> {
 struct Read<'a> {
     source: Option<&'a str>,
     condition: Option<u64>,
-    all: bool,
+    style: Style,
     budget: Option<u64>,
     is_budget: bool,
 }
@@ -58,7 +59,7 @@ fn explain<'a>(words: &'a [String]) -> Words<'a> {
     let mut read = Read {
         source: None,
         condition: None,
-        all: false,
+        style: Style::Short,
         budget: None,
         is_budget: false,
     };
@@ -75,7 +76,7 @@ fn explain<'a>(words: &'a [String]) -> Words<'a> {
         Some(source) => Words::Explain {
             source,
             condition: read.condition.unwrap_or(0),
-            all: read.all,
+            style: read.style,
             budget: read.budget.unwrap_or(BUDGET),
         },
         None => Words::Refused,
@@ -90,8 +91,12 @@ fn with_word<'a>(read: Read<'a>, word: &'a str) -> Option<Read<'a>> {
         read.budget = Some(number(word, 0)?);
         return Some(read);
     }
-    if word == "--all" && !read.all {
-        read.all = true;
+    if word == "--all" && read.style == Style::Short {
+        read.style = Style::Whole;
+        return Some(read);
+    }
+    if word == "--json" && read.style == Style::Short {
+        read.style = Style::Json;
         return Some(read);
     }
     if word == "--budget" && read.budget.is_none() {

@@ -39,7 +39,7 @@ pub fn type_at<C: Checker>(
     last.text("assert (")?;
     last.bytes(expr)?;
     last.text(") is any")?;
-    let asked = asked(alloc, seen, spot, lines, last.as_slice())?;
+    let asked = made(alloc, seen, spot, lines, last.as_slice())?;
     checker.type_before(alloc, asked.page.as_slice(), asked.behind.saturating_add(1))
 }
 
@@ -51,12 +51,12 @@ pub fn is_taken<C: Checker>(
     spot: Spot,
     lines: &[Page],
 ) -> Result<bool, NoMemory> {
-    let asked = asked(alloc, seen, spot, lines, b"skip")?;
+    let asked = made(alloc, seen, spot, lines, b"skip")?;
     let fault = checker.fault(alloc, asked.page.as_slice())?;
     Ok(fault.is_none())
 }
 
-fn asked(
+fn made(
     alloc: Global,
     seen: &Seen,
     spot: Spot,
@@ -122,7 +122,7 @@ fn put_clause(
 ) -> Result<Asked, NoMemory> {
     let mut page = page;
     page.text("method ask__(")?;
-    let mut front = "";
+    let mut is_first = true;
     for node in seen.nodes.all() {
         let is_meant = match node.class {
             Class::Param | Class::Variable => true,
@@ -130,9 +130,9 @@ fn put_clause(
             _ => false,
         };
         if is_meant && node.parent == decl {
-            page.text(front)?;
+            page.text(if is_first { "" } else { ", " })?;
             page.bytes(seen.text(node.span))?;
-            front = ", ";
+            is_first = false;
         }
     }
     page.text("):\n")?;

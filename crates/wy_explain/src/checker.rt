@@ -21,6 +21,9 @@ pub struct Fault {
 
 /// The passes from the bytes of a source to its typed and assigned program, as far as an explanation asks them.
 pub trait Checker {
+    /// The place of the first fault of the text; none where it is read.
+    fn unread(&self, alloc: Global, bytes: &[u8]) -> Result<Option<u32>, NoMemory>;
+
     /// The first fault, in the order of the passes; none where no pass has one.
     fn fault(&self, alloc: Global, bytes: &[u8]) -> Result<Option<Fault>, NoMemory>;
 

@@ -214,14 +214,14 @@ fn put_goal(
         }
         return Ok(());
     }
-    let mut front = "";
+    let mut is_first = true;
     for part in parts.as_slice() {
         if is_plain_whole(alloc, words.terms, *part)? {
             continue;
         }
-        page.text(front)?;
+        page.text(if is_first { "" } else { " && " })?;
         put_formula(page, words, *part, true)?;
-        front = " && ";
+        is_first = false;
     }
     if page.is_empty() {
         put_formula(page, words, goal, true)?;

@@ -1,11 +1,10 @@
 //! Faults of a source, pass by pass.
 use crate::checker::{Checker, Fault, Pass};
+use crate::json::{Style, put_styled};
 use crate::text_faults::text_fault;
 use crate::type_faults::type_fault;
 use std::alloc::Global;
-use wy_explain_source::{
-    Finding, NoMemory, Page, Role, Seen, Span, name_fault, path_fault, put_finding,
-};
+use wy_explain_source::{Finding, NoMemory, Page, Role, Seen, Span, name_fault, path_fault};
 
 /// How many faults are told.
 const MOST: usize = 8;
@@ -18,13 +17,13 @@ pub fn put_faults<C: Checker>(
     seen: &Seen,
     checker: &C,
     first: Fault,
-    all: bool,
+    style: Style,
 ) -> Result<(), NoMemory> {
     let mut fault = first;
     let mut left: Vec<u8> = Vec::from_slice(alloc, seen.source.bytes)?;
     for _ in 0..MOST {
         let finding = finding_of(alloc, seen, checker, fault)?;
-        put_finding(page, &seen.source, &finding, all)?;
+        put_styled(page, &seen.source, &finding, style)?;
         if fault.pass == Pass::Text || !blank(seen, left.as_mut_slice(), fault.at) {
             break;
         }
@@ -46,7 +45,7 @@ fn finding_of<C: Checker>(
     fault: Fault,
 ) -> Result<Finding, NoMemory> {
     match fault.pass {
-        Pass::Text => text_fault(alloc, seen, fault.word, fault.at),
+        Pass::Text => text_fault(alloc, seen, checker, fault.word, fault.at),
         Pass::Names => name_fault(alloc, seen, fault.word, fault.at),
         Pass::Types => type_fault(alloc, seen, checker, fault.word, fault.at),
         Pass::Paths => path_fault(alloc, seen, fault.word, fault.at),

@@ -1,8 +1,8 @@
 //! What could stand in the place of a token that can't.
+use crate::checker::Checker;
 use crate::text_faults::open_bracket;
 use std::alloc::Global;
 use wy_explain_source::{NoMemory, Page, Seen, Span};
-use wy_parse_front::{is_no_memory, offset, read};
 
 /// Sources above this size aren't tried.
 const LARGEST: usize = 65_536;
@@ -56,7 +56,12 @@ const TRIED: [(&str, &str, &str); 44] = [
 ];
 
 /// Which of the tried tokens could stand at the offset, by asking the reader of programs for each: in their order, an entry each.
-pub fn could_stand(alloc: Global, seen: &Seen, at: u32) -> Result<Vec<bool>, NoMemory> {
+pub fn could_stand<C: Checker>(
+    alloc: Global,
+    seen: &Seen,
+    checker: &C,
+    at: u32,
+) -> Result<Vec<bool>, NoMemory> {
     let mut choices = Vec::new(alloc);
     let before = seen.text(Span { from: 0, to: at });
     if before.len() > LARGEST {
@@ -65,13 +70,18 @@ pub fn could_stand(alloc: Global, seen: &Seen, at: u32) -> Result<Vec<bool>, NoM
     let is_open = open_bracket(seen, at).is_some();
     for tried in &TRIED {
         let is_told = tried.0 != "\n" || !is_open;
-        choices.push(is_told && may_stand(alloc, before, tried.0)?)?;
+        choices.push(is_told && may_stand(alloc, checker, before, tried.0)?)?;
     }
     Ok(choices)
 }
 
 // Whether a program may begin with the text and this token.
-fn may_stand(alloc: Global, before: &[u8], token: &str) -> Result<bool, NoMemory> {
+fn may_stand<C: Checker>(
+    alloc: Global,
+    checker: &C,
+    before: &[u8],
+    token: &str,
+) -> Result<bool, NoMemory> {
     let mut page = Page::new(alloc);
     page.bytes(before)?;
     let is_fresh = match before.last() {
@@ -89,38 +99,23 @@ fn may_stand(alloc: Global, before: &[u8], token: &str) -> Result<bool, NoMemory
     if page.as_slice().len() >= u32::MAX as usize {
         return Ok(false);
     }
-    match read(alloc, page.as_slice()) {
-        Ok(_) => Ok(true),
-        Err(fault) => {
-            if is_no_memory(fault) {
-                return Err(NoMemory);
-            }
-            Ok(offset(fault) as usize > at)
-        }
+    match checker.unread(alloc, page.as_slice())? {
+        Some(fault) => Ok(fault as usize > at),
+        None => Ok(true),
     }
 }
 
 /// Writes the tokens that could stand, families by their word where two of them could.
 pub fn put_choices(page: &mut Page, choices: &[bool]) -> Result<(), NoMemory> {
     let mut told = 0usize;
-    let mut last = "";
     for number in 0..TRIED.len() {
-        let could = match choices.get(number) {
-            Some(could) => *could,
-            None => false,
-        };
         let (_, alone, family) = TRIED[number];
-        if !could {
+        let is_family = family != "" && in_family(choices, family, TRIED.len()) > 1;
+        if !could(choices, number) || (is_family && is_told(choices, family, number)) {
             continue;
         }
-        let is_family = family != "" && in_family(choices, family) > 1;
-        let word = if is_family { family } else { alone };
-        if word == last || is_expression_part(choices, family, word) {
-            continue;
-        }
-        last = word;
         page.text(if told == 0 { " Here may stand: " } else { ", " })?;
-        page.text(word)?;
+        page.text(if is_family { family } else { alone })?;
         told = told.saturating_add(1);
     }
     if told > 0 {
@@ -129,9 +124,9 @@ pub fn put_choices(page: &mut Page, choices: &[bool]) -> Result<(), NoMemory> {
     Ok(())
 }
 
-// A bar and a minus may also be operators.
-fn is_expression_part(choices: &[bool], family: &str, word: &str) -> bool {
-    family == "an expression" && word == family && !could(choices, 1)
+// Whether a family needs no word here: an earlier one of it could stand, or it is but a bar and a minus, which are operators too.
+fn is_told(choices: &[bool], family: &str, number: usize) -> bool {
+    in_family(choices, family, number) > 0 || (family == "an expression" && !could(choices, 1))
 }
 
 fn could(choices: &[bool], number: usize) -> bool {
@@ -141,11 +136,11 @@ fn could(choices: &[bool], number: usize) -> bool {
     }
 }
 
-// How many of a family could stand.
-fn in_family(choices: &[bool], family: &str) -> usize {
+// How many of a family could stand, of those before this number.
+fn in_family(choices: &[bool], family: &str, number: usize) -> usize {
     let mut count = 0usize;
-    for number in 0..TRIED.len() {
-        if TRIED[number].2 == family && could(choices, number) {
+    for other in 0..TRIED.len() {
+        if other < number && TRIED[other].2 == family && could(choices, other) {
             count = count.saturating_add(1);
         }
     }

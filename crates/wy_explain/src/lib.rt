@@ -6,7 +6,7 @@
 //!
 //! `conditions` has what is told of a condition: `kinds` what owes it, `clauses` and `members` which clause it owes, `choosing` which
 //! facts of the open case are shown, `naming` (with `uses`) what names are called, `term_text` (with `parts`) how terms are written, `hints`
-//! how such programs are mended, and `spent` why a budget may be spent.
+//! how such programs are mended, and `spent` why a budget may be spent. `json` writes findings for editors.
 //!
 //! Nothing is promised of these texts but that they are made safely and in finite time.
 #![tactic(auto)]
@@ -19,6 +19,7 @@ mod conditions;
 mod faults;
 mod follows;
 mod hints;
+mod json;
 mod kinds;
 mod members;
 mod naming;
@@ -33,9 +34,9 @@ mod uses;
 pub use checker::{Checker, Fault, Pass};
 pub use conditions::{OpenCase, Owed, finding_of, open_finding};
 pub use faults::put_faults;
+pub use json::{Style, put_styled};
 pub use spent::put_spent;
 pub use type_text::put_ty;
 pub use wy_core::Core;
-pub use wy_explain_source::{Finding, NoMemory, Page, Program, Seen, Source, put_finding};
-pub use wy_parse_front::{SourceFault, is_no_memory, offset, read, word};
+pub use wy_explain_source::{Finding, NoMemory, Page, Program, Seen, Source};
 pub use wy_term::{Cond, Conds, Terms};

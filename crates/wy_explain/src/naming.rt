@@ -185,12 +185,12 @@ fn is_told(list: &[Called], number: usize) -> bool {
 
 // The names that stand for values of the same kind and line.
 fn put_alike(page: &mut Page, list: &[Called], called: &Called) -> Result<(), NoMemory> {
-    let mut front = "";
+    let mut is_first = true;
     for other in list {
         if are_alike(other, called) {
-            page.text(front)?;
+            page.text(if is_first { "" } else { ", " })?;
             page.bytes(other.shown.as_slice())?;
-            front = ", ";
+            is_first = false;
         }
     }
     Ok(())

@@ -401,11 +401,11 @@ fn kind_pieces(
         Kind::Record(fields) => {
             let mut own = Page::new(alloc);
             own.text("a record {")?;
-            let mut front = "";
+            let mut is_first = true;
             for field in fields {
-                own.text(front)?;
+                own.text(if is_first { "" } else { ", " })?;
                 own.bytes(field.as_bytes())?;
-                front = ", ";
+                is_first = false;
             }
             own.text("}")?;
             pieces.push(Piece::Text(own))?;

@@ -1,4 +1,5 @@
 //! Faults of the text: what can't be read.
+use crate::checker::Checker;
 use crate::follows::{could_stand, put_choices};
 use std::alloc::Global;
 use wy_explain_source::{
@@ -6,9 +7,10 @@ use wy_explain_source::{
 };
 
 /// What is told of a fault of the text at this place.
-pub fn text_fault(
+pub fn text_fault<C: Checker>(
     alloc: Global,
     seen: &Seen,
+    checker: &C,
     word: &'static str,
     at: u32,
 ) -> Result<Finding, NoMemory> {
@@ -28,7 +30,7 @@ pub fn text_fault(
         "TooMany" => finding.message.text(
             "This is the 4,097th declaration; a source has 4,096 at most.",
         )?,
-        _ => unexpected(alloc, seen, &mut finding)?,
+        _ => unexpected(alloc, seen, checker, &mut finding)?,
     }
     Ok(finding)
 }
@@ -373,7 +375,12 @@ pub fn open_bracket(seen: &Seen, at: u32) -> Option<Span> {
     found
 }
 
-fn unexpected(alloc: Global, seen: &Seen, finding: &mut Finding) -> Result<(), NoMemory> {
+fn unexpected<C: Checker>(
+    alloc: Global,
+    seen: &Seen,
+    checker: &C,
+    finding: &mut Finding,
+) -> Result<(), NoMemory> {
     let at = finding.at;
     let is_end = at as usize >= seen.source.bytes.len();
     let shown = seen.text(seen.mark_at(at));
@@ -386,7 +393,7 @@ fn unexpected(alloc: Global, seen: &Seen, finding: &mut Finding) -> Result<(), N
         finding.message.code(shown)?;
         finding.message.text(" can't stand here.")?;
     }
-    let choices = could_stand(alloc, seen, at)?;
+    let choices = could_stand(alloc, seen, checker, at)?;
     put_choices(&mut finding.message, choices.as_slice())?;
     match open_bracket(seen, at) {
         Some(span) => point_at(alloc, finding, "This bracket is open:", span),

@@ -70,13 +70,13 @@ fn put_close(page: &mut Page, is_tight: bool) -> Result<(), NoMemory> {
 
 #[cycle(put_ty)]
 fn put_fields(fields: &[(Name, Ty)], core: &Core, page: &mut Page) -> Result<(), NoMemory> {
-    let mut front = "{";
+    let mut is_first = true;
     for field in fields {
-        page.text(front)?;
+        page.text(if is_first { "{" } else { ", " })?;
         put_ty(&field.1, core, page, false)?;
         page.text(" ")?;
         page.text(field.0.as_str())?;
-        front = ", ";
+        is_first = false;
     }
     page.text(if fields.is_empty() { "{}" } else { "}" })
 }
@@ -113,11 +113,11 @@ fn put_normal(
     }
     let is_many = conjuncts.len() > 1;
     put_open(page, is_tight && is_many)?;
-    let mut front = "";
+    let mut is_first = true;
     for conjunct in conjuncts {
-        page.text(front)?;
+        page.text(if is_first { "" } else { " | " })?;
         put_conjunct(conjunct, core, page)?;
-        front = " | ";
+        is_first = false;
     }
     put_close(page, is_tight && is_many)
 }
@@ -149,13 +149,13 @@ fn put_atom(atom: &Atom, core: &Core, page: &mut Page) -> Result<(), NoMemory> {
 
 #[cycle(put_ty)]
 fn put_parts(fields: &[(Name, Part)], core: &Core, page: &mut Page) -> Result<(), NoMemory> {
-    let mut front = "{";
+    let mut is_first = true;
     for field in fields {
-        page.text(front)?;
+        page.text(if is_first { "{" } else { ", " })?;
         put_part(&field.1, core, page, false)?;
         page.text(" ")?;
         page.text(field.0.as_str())?;
-        front = ", ";
+        is_first = false;
     }
     page.text(if fields.is_empty() { "{}" } else { "}" })
 }
@@ -169,11 +169,11 @@ fn put_part(part: &Part, core: &Core, page: &mut Page, is_tight: bool) -> Result
     }
     let is_many = terms.len() > 1;
     put_open(page, is_tight && is_many)?;
-    let mut front = "";
+    let mut is_first = true;
     for term in terms {
-        page.text(front)?;
+        page.text(if is_first { "" } else { " & " })?;
         put_signed(term, core, page, is_tight || is_many)?;
-        front = " & ";
+        is_first = false;
     }
     put_close(page, is_tight && is_many)
 }
