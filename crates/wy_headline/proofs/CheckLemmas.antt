@@ -59,5 +59,5 @@ module _ (s : Setting) (source cert : List ℕ) (budget status : ℕ) (k : Sinks
 pub checks_right : ChecksAreRight
 checks_right s source cert budget status k h = record {
   accepted = accepted s source cert budget status k h;
-  accepted_where = λ told a file. exactly s status k (check_steps s source cert budget) h (apart s source cert budget status k h) told (Ok (checked_answer a)) (goes_on a (file_due s source cert budget a file) refl);
+  accepted_where = λ told a file. exactly s status k (check_steps s source cert budget) h (apart s source cert budget status k h) (Ok (checked_answer a)) (goes_on a (file_due s source cert budget a told file) refl);
 }

@@ -3,7 +3,7 @@ use Rattle.std.proofs.Common.{◌≡◌, ◌⊎◌, inl, inr, ◌∙◌, ℕ, �
 use Rattle.wy_port.specs.Count.{Rose}
 use Rattle.wy_top.specs.wy_top_answers.Answers.{refused, no_memory}
 use Rattle.wy_top.specs.wy_top_answers.Showing.{Shown, ShowsWhole, Sinks}
-use Rattle.wy_top.specs.wy_top_answers.Steps.{Came, EndsFree, EndsOutside, IsFree, IsOutside, IsTold, Sense, Setting, answer_in, due, failed, from_outside, memory, stated, uncertified}
+use Rattle.wy_top.specs.wy_top_answers.Steps.{Came, EndsFree, EndsOutside, IsFree, IsOutside, Sense, Setting, answer_in, due, failed, from_outside, memory, stated, uncertified}
 use Rattle.wy_top.specs.wy_top_answers.declared.answer.Answer.{Answer}
 use Rattle.wy_top.specs.wy_top_answers.report.Lines.{words_refused}
 use Rattle.wy_top.specs.Large.{big_steps}
@@ -17,7 +17,7 @@ use Rattle.wy_top.specs.Statement as statement
 use Rattle.wy_top.specs.declared.launching.Launch.{Launch}
 use Rattle.wy_top_words.specs.CommandLine.{Asked, check, run, prove, conds, fmt, dis, big, probe, command_of}
 use Rattle.wy_value.specs.Datum.{Datum}
-use Rattle.wy_headline.specs.Accepted.{IsCutShort}
+use Rattle.wy_headline.specs.Accepted.{AreTold, IsCutShort}
 use Rattle.wy_headline.specs.Accepted as accepted
 use Rattle.wy_headline.specs.Complete.{AnswersWhole, CallsAreComplete, DoesWhole, DoesWholeIf, IsDefined, LargeWhole, NoneRose, ProvesWhole, RunsWhole, ShowsProofWhole, ShowsRunWhole}
 use Rattle.wy_headline.specs.Headline.{Headline}
@@ -39,14 +39,14 @@ module _ (s : Setting) (v : Saving) (status : ℕ) (k : Sinks) (none : NoneRose 
 
   outside_9 : (a : Answer) → IsOutside s a → ShowsWhole a status k → status ≡ 9
   outside_9 a (memory e) w = w.answer ∙ ap (λ (b : Answer). b.status) e
-  outside_9 a (failed name e rose) w = absurd (none.loads rose)
+  outside_9 a (failed name e rose) w = absurd (none.loads name rose)
 
   free_so : (a : Answer) → IsFree s a → ShowsWhole a status k → (status ≡ 9) ⊎ (status ≡ 13)
   free_so a (from_outside o) w = inl (outside_9 a o w)
   free_so a (uncertified e) w = inr (w.answer ∙ ap (λ (b : Answer). b.status) e)
 
   short_9 : IsCutShort s status k → status ≡ 9
-  short_9 (accepted.load_failed is rose) = absurd (none.loads rose)
+  short_9 (accepted.load_failed name rose shown) = absurd (none.loads name rose)
   short_9 (accepted.sink_failed is rose) = absurd (no_sink rose)
   short_9 (accepted.no_memory nine) = nine
 
@@ -58,10 +58,10 @@ module _ (s : Setting) (v : Saving) (status : ℕ) (k : Sinks) (none : NoneRose 
     only_so (Ok a) other w (inr free) = absurd free
     only_so (Err a) other w (inr free) = inr (free_so a free w)
 
-    defined_so : (last : Came Answer) → step stated last → ShowsWhole (answer_in last) status k → (IsTold s → (other : Came Answer) → step due other → (other ≡ last) ⊎ EndsFree s last) → IsDefined s step status last
-    defined_so last came w only = record { comes = came; only = λ told other is. only_so last other w (only told other is) }
+    defined_so : (last : Came Answer) → step stated last → ShowsWhole (answer_in last) status k → ((other : Came Answer) → step due other → (other ≡ last) ⊎ EndsFree s last) → IsDefined s step status last
+    defined_so last came w only = record { comes = came; only = λ other is. only_so last other w (only other is) }
 
-    by_last : (last : Came Answer) → step stated last ⊎ EndsOutside s last → ShowsWhole (answer_in last) status k → (IsTold s → (other : Came Answer) → step due other → (other ≡ last) ⊎ EndsFree s last)
+    by_last : (last : Came Answer) → step stated last ⊎ EndsOutside s last → ShowsWhole (answer_in last) status k → ((other : Came Answer) → step due other → (other ≡ last) ⊎ EndsFree s last)
         → AnswersWhole s step status k ⊎ (status ≡ 9)
     by_last last (inl came) w only = inl (record { last = last; defined = defined_so last came w only; shown = w })
     by_last (Ok a) (inr o) w only = absurd o
@@ -79,7 +79,7 @@ module _ (s : Setting) (v : Saving) (status : ℕ) (k : Sinks) (none : NoneRose 
     by_status e lines d output at_five (inr (inl five)) = let f = at_five five in absurd (no_sink f.rose)
     by_status e lines d output at_five (inr (inr nine)) = inr nine
 
-    surely_so : Headline s source cert name arguments budget steps stats status k → IsTold s → (lines : List ℕ) (e : Entry) → IsStarted s source cert name arguments budget lines e → (d : Datum) (output : List ℕ) → IsDoneWithin e steps d output
+    surely_so : Headline s source cert name arguments budget steps stats status k → AreTold s source cert → (lines : List ℕ) (e : Entry) → IsStarted s source cert name arguments budget lines e → (d : Datum) (output : List ℕ) → IsDoneWithin e steps d output
         → EndsDone e d output status k ⊎ (status ≡ 9)
     surely_so h told lines e is d output within = by (h.starts_where told lines e is)
       where
@@ -102,17 +102,17 @@ module _ (s : Setting) (v : Saving) (status : ℕ) (k : Sinks) (none : NoneRose 
     run_only (Err a) other w (inr free) = inr (free_so a free w)
 
     runs_whole : (r : Came Launch) → run_steps s source cert name arguments budget stated r → ShowsRunWhole steps stats status k r
-        → (IsTold s → (other : Came Launch) → run_steps s source cert name arguments budget due other → (other ≡ r) ⊎ EndsFree s r)
+        → ((other : Came Launch) → run_steps s source cert name arguments budget due other → (other ≡ r) ⊎ EndsFree s r)
         → Headline s source cert name arguments budget steps stats status k → RunsWhole s source cert name arguments budget steps stats status k
     runs_whole r came w only h = record {
       launch = r;
-      defined = record { comes = came; only = λ told other is. run_only r other w (only told other is) };
+      defined = record { comes = came; only = λ other is. run_only r other w (only other is) };
       shown = w;
       surely = surely_so h;
     }
 
     by_launch : (r : Came Launch) → run_steps s source cert name arguments budget stated r ⊎ EndsOutside s r → statement.ShowsRun steps stats status k r
-        → (IsTold s → (other : Came Launch) → run_steps s source cert name arguments budget due other → (other ≡ r) ⊎ EndsFree s r)
+        → ((other : Came Launch) → run_steps s source cert name arguments budget due other → (other ≡ r) ⊎ EndsFree s r)
         → Headline s source cert name arguments budget steps stats status k → RunsWhole s source cert name arguments budget steps stats status k ⊎ (status ≡ 9)
     by_launch (Ok l) (inl came) shown only h = by (ran_whole l shown)
       where
@@ -139,9 +139,9 @@ module _ (s : Setting) (v : Saving) (status : ℕ) (k : Sinks) (none : NoneRose 
         let le = within.enough in
         absurd (omega (arith, less, le))
 
-    large_surely : ShowsLarge s functions seed budget steps status k → IsTold s → (e : Entry) (of : IsLargeRun s functions seed budget e) (d : Datum) (output : List ℕ) → IsDoneWithin e steps d output
+    large_surely : ShowsLarge s functions seed budget steps status k → (e : Entry) (of : IsLargeRun s functions seed budget e) (d : Datum) (output : List ℕ) → IsDoneWithin e steps d output
         → ShowsWhole (line_of functions (count_of of.acceptance.program) e d output) status k ⊎ (status ≡ 9)
-    large_surely h told e of d output within = by (h.is_due told e of)
+    large_surely h e of d output within = by (h.is_due e of)
       where
         by : ((a : Answer) × RanLarge s functions seed budget steps e of a × ShowsWhole a status k) ⊎ IsCutShort s status k → ShowsWhole (line_of functions (count_of of.acceptance.program) e d output) status k ⊎ (status ≡ 9)
         by (inl r) = inl (subst (λ (a : Answer). ShowsWhole a status k) (same_line e _ r.0 r.1.answers d output within) r.2)
@@ -167,11 +167,11 @@ module _ (s : Setting) (v : Saving) (status : ℕ) (k : Sinks) (none : NoneRose 
     proof_answer (Err a) w = w.0
 
     proves_whole : (r : Came Answer) → proves_file s source budget stated r → ShowsProofWhole s source budget v status k r
-        → (IsTold s → (other : Came Answer) → proves_file s source budget due other → (other ≡ r) ⊎ EndsFree s r) → ProvesWhole s source budget v status k
+        → ((other : Came Answer) → proves_file s source budget due other → (other ≡ r) ⊎ EndsFree s r) → ProvesWhole s source budget v status k
     proves_whole r came w only = record { proof = r; defined = defined_so (proves_file s source budget) r came (proof_answer r w) only; shown = w }
 
     by_proof : (r : Came Answer) → proves_file s source budget stated r ⊎ EndsOutside s r → statement.ShowsProof s source output budget v status k r
-        → (IsTold s → (other : Came Answer) → proves_file s source budget due other → (other ≡ r) ⊎ EndsFree s r) → ProvesWhole s source budget v status k ⊎ (status ≡ 9)
+        → ((other : Came Answer) → proves_file s source budget due other → (other ≡ r) ⊎ EndsFree s r) → ProvesWhole s source budget v status k ⊎ (status ≡ 9)
     by_proof (Ok a) (inl came) shown only = by (saved_whole shown.0 a shown.1 shown.2)
       where
         by : ShowsProofWhole s source budget v status k (Ok a) ⊎ (status ≡ 9) → ProvesWhole s source budget v status k ⊎ (status ≡ 9)

@@ -2,7 +2,7 @@
 use Rattle.std.proofs.Common.{◌≡◌, ◌≢◌, ◌⊎◌, ◌<◌, inl, inr, ℕ, List, [], Bool, Some, None, Ok, Err, sym, ap, subst, arith}
 use Rattle.std.specs.Prelude.{⊤}
 use Rattle.wy_top.specs.wy_top_answers.Showing.{Shown, ShowsWhole, Sinks}
-use Rattle.wy_top.specs.wy_top_answers.Steps.{Came, EndsFree, EndsOutside, IsTold, Setting, due, ends, goes_on, stated}
+use Rattle.wy_top.specs.wy_top_answers.Steps.{Came, EndsFree, EndsOutside, Setting, due, ends, goes_on, stated}
 use Rattle.wy_top.specs.wy_top_answers.declared.answer.Answer.{Answer}
 use Rattle.wy_top.specs.wy_mach_run.Running.{state_of}
 use Rattle.wy_top.specs.Acceptance.{Acceptance}
@@ -10,7 +10,7 @@ use Rattle.wy_top.specs.Launching.{run_steps, starts}
 use Rattle.wy_top.specs.Runs as code
 use Rattle.wy_top.specs.Statement as statement
 use Rattle.wy_top.specs.declared.launching.Launch.{Launch}
-use Rattle.wy_headline.specs.Accepted.{AcceptsFile, IsCutShort}
+use Rattle.wy_headline.specs.Accepted.{AcceptsFile, AreTold, IsCutShort}
 use Rattle.wy_headline.specs.Headline.{Accepts, HasNoRun, Headline, IsBehind, RunsAreRight}
 use Rattle.wy_headline.specs.Runs.{Entry}
 use Rattle.wy_headline.specs.Started.{IsStarted}
@@ -89,7 +89,7 @@ module _ (s : Setting) (source cert name arguments : List ℕ) (budget steps : �
 
   -- of what came, nothing else is due
   abbrev Only : Came Launch → Type 0
-  Only r = IsTold s → (other : Came Launch) → run_steps s source cert name arguments budget due other → (other ≡ r) ⊎ EndsFree s r
+  Only r = (other : Came Launch) → run_steps s source cert name arguments budget due other → (other ≡ r) ⊎ EndsFree s r
 
   -- a refusal that is due
   refusal_due : (b : Answer) (r : Came Launch) → IsNo13 r → statement.ShowsRun steps stats status k r → (Err b ≡ r) ⊎ EndsFree s r → ShowsWhole b status k ⊎ IsCutShort s status k
@@ -98,9 +98,9 @@ module _ (s : Setting) (source cert name arguments : List ℕ) (budget steps : �
   refusal_due b (Err a) apart shown (inl e) = whole_or s status k b (subst (λ (c : Answer). Shown c status k) (sym (err_is b a e)) shown)
   refusal_due b (Err a) apart shown (inr free) = inr (shown_short s status k a apart free shown)
 
-  accepted_due : (r : Came Launch) → IsNo13 r → statement.ShowsRun steps stats status k r → Only r → IsTold s → (a : Acceptance) → AcceptsFile s source cert budget a → (b : Answer) → starts name arguments a due (Err b)
+  accepted_due : (r : Came Launch) → IsNo13 r → statement.ShowsRun steps stats status k r → Only r → AreTold s source cert → (a : Acceptance) → AcceptsFile s source cert budget a → (b : Answer) → starts name arguments a due (Err b)
       → ShowsWhole b status k ⊎ IsCutShort s status k
-  accepted_due r apart shown only told a file b is = refusal_due b r apart shown (only told (Err b) (goes_on a (file_due s source cert budget a file) is))
+  accepted_due r apart shown only told a file b is = refusal_due b r apart shown (only (Err b) (goes_on a (file_due s source cert budget a told file) is))
 
   -- no run that is due was refused
   refused_due : (a : Answer) → Apart a → Shown a status k → (l : Launch) → (launched l ≡ not_launched a) ⊎ EndsFree s (not_launched a) → IsCutShort s status k
@@ -118,7 +118,7 @@ module _ (s : Setting) (source cert name arguments : List ℕ) (budget steps : �
         accepted = refused_behind a none shown;
         accepted_where = accepted_due (Err a) apart shown only;
         starts_only = tt;
-        starts_where = λ told its e h. inr (refused_due a apart shown (launch_in s source cert name arguments budget its e h) (only told _ (run_due s source cert name arguments budget its e h)));
+        starts_where = λ told its e h. inr (refused_due a apart shown (launch_in s source cert name arguments budget its e h) (only _ (run_due s source cert name arguments budget its e told h)));
         refused = λ is. (a, none, shown);
         never_faults = tt;
         result = tt;
@@ -131,7 +131,7 @@ module _ (s : Setting) (source cert name arguments : List ℕ) (budget steps : �
       }
 
   -- the run that is due is the one that came
-  same_run : (l : Launch) (of : IsRunOf s source cert name arguments budget l) → IsTold s → (its : List ℕ) (e : Entry) (h : IsStarted s source cert name arguments budget its e)
+  same_run : (l : Launch) (of : IsRunOf s source cert name arguments budget l) → IsTold s source → (its : List ℕ) (e : Entry) (h : IsStarted s source cert name arguments budget its e)
       → (launched (launch_in s source cert name arguments budget its e h) ≡ launched l) ⊎ EndsFree s (launched l) → (Some (entry_of of.acceptance.program.core name arguments l.start of.launched.starts) ≡ Some e) ⊎ IsCutShort s status k
   same_run l of told its e h (inl is) = inl (ap (λ (x : Entry). Some x) (one_entry s source cert name arguments budget its e h l of told (value_is _ l is)))
   same_run l of told its e h (inr free) = absurd free
@@ -156,7 +156,7 @@ module _ (s : Setting) (source cert name arguments : List ℕ) (budget steps : �
         accepted = λ behind. (of.acceptance, of.file);
         accepted_where = accepted_due (Ok l) tt shown only;
         starts_only = record { acceptance = of.acceptance; file = of.file; lines_are = of.launched.lines_are; starts = is_start core name arguments l.start started };
-        starts_where = λ told its f h. same_run l of told its f h (only told _ (run_due s source cert name arguments budget its f h));
+        starts_where = λ told its f h. same_run l of told.source_is its f h (only _ (run_due s source cert name arguments budget its f told h));
         refused = λ is. absurd (no_entry e is);
         never_faults = sound.no_fault;
         result = result;

@@ -2,7 +2,7 @@
 use Rattle.std.proofs.Common.{◌≡◌, ◌⊎◌, inl, inr, ◌++◌, ◌∙◌, ℕ, List, Bool, Ok, Err, is_some, refl, sym, ap, subst}
 use Rattle.wy_top.specs.wy_top_answers.Answers.{refused, written as writes}
 use Rattle.wy_top.specs.wy_top_answers.Showing.{ShowsWhole, Sinks}
-use Rattle.wy_top.specs.wy_top_answers.Steps.{Came, EndsOutside, Follows, IsTold, Setting, answer_in, due, ends, goes_on, stated}
+use Rattle.wy_top.specs.wy_top_answers.Steps.{Came, EndsOutside, Follows, Setting, answer_in, due, ends, goes_on, stated}
 use Rattle.wy_top.specs.wy_top_answers.declared.answer.Answer.{Answer}
 use Rattle.wy_top.specs.wy_top_answers.report.Lines.{steps_spent}
 use Rattle.wy_top_big.specs.Source.{argument_text, entry}
@@ -110,7 +110,7 @@ module _ (s : Setting) (functions seed budget steps : ℕ) where
       } in (
         end.answer,
         ran,
-        goes_on of.bytes (of.made, of.within) (goes_on x (bytes_due s large_name no_file budget of.bytes x of.accepts) (goes_on l (record { lines_are = refl; starts = started }) end.finishes_so)),
+        goes_on of.bytes (of.made, of.within) (goes_on x (bytes_due s large_name no_file budget of.bytes x (λ named. absurd (named refl)) of.accepts) (goes_on l (record { lines_are = refl; starts = started }) end.finishes_so)),
       )
 
   by_last : (last : Came Answer) → big_steps s functions seed budget steps stated last ⊎ EndsOutside s last → ComesToLarge s functions seed budget steps (answer_in last)
@@ -141,8 +141,8 @@ module _ (s : Setting) (functions seed budget steps status : ℕ) (k : Sinks) (h
   comes_so : ComesToLarge s functions seed budget steps h.answer
   comes_so = subst (ComesToLarge s functions seed budget steps) (sym h.answers.is) (by_last s functions seed budget steps h.answers.last h.answers.gives.comes)
 
-  due_so : IsTold s → (e : Entry) (of : IsLargeRun s functions seed budget e) → ((a : Answer) × RanLarge s functions seed budget steps e of a × big_steps s functions seed budget steps due (Ok a)) → ((a : Answer) × RanLarge s functions seed budget steps e of a × ShowsWhole a status k) ⊎ IsCutShort s status k
-  due_so told e of d = by (exactly s status k (big_steps s functions seed budget steps) h (large_comes s functions seed budget steps h.answer comes_so) told (Ok d.0) d.2)
+  due_so : (e : Entry) (of : IsLargeRun s functions seed budget e) → ((a : Answer) × RanLarge s functions seed budget steps e of a × big_steps s functions seed budget steps due (Ok a)) → ((a : Answer) × RanLarge s functions seed budget steps e of a × ShowsWhole a status k) ⊎ IsCutShort s status k
+  due_so e of d = by (exactly s status k (big_steps s functions seed budget steps) h (large_comes s functions seed budget steps h.answer comes_so) (Ok d.0) d.2)
     where
       by : ShowsWhole d.0 status k ⊎ IsCutShort s status k → ((a : Answer) × RanLarge s functions seed budget steps e of a × ShowsWhole a status k) ⊎ IsCutShort s status k
       by (inl w) = inl (d.0, d.1, w)
@@ -153,5 +153,5 @@ large_right s functions seed budget steps status k h = record {
   answer = h.answer;
   comes = comes_so s functions seed budget steps status k h;
   shown = h.shown;
-  is_due = λ told e of. due_so s functions seed budget steps status k h told e of (large_due s functions seed budget steps e of);
+  is_due = λ e of. due_so s functions seed budget steps status k h e of (large_due s functions seed budget steps e of);
 }

@@ -149,7 +149,7 @@ module _ (s : Setting) (source name : List ℕ) (tuples ticks : ℕ) where
           never = never_accepted c.bytes name tuples ticks c.faults;
         }
 
-    shows_due : IsTold s → (bytes : List ℕ) → IsAlone s source bytes → (f : Faults bytes name tuples ticks) → ShowsWhole (answer_of bytes name tuples ticks f) status k ⊎ IsCutShort s status k
+    shows_due : IsTold s source → (bytes : List ℕ) → IsAlone s source bytes → (f : Faults bytes name tuples ticks) → ShowsWhole (answer_of bytes name tuples ticks f) status k ⊎ IsCutShort s status k
     shows_due told bytes alone f =
         let steps = probe_steps s source name tuples ticks in
         let apart = subst Apart (sym h.answers.is) (of_last s steps (probe_good s source name tuples ticks) (probe_bad s source name tuples ticks) h.answers.last h.answers.gives.comes) in
@@ -157,7 +157,7 @@ module _ (s : Setting) (source name : List ℕ) (tuples ticks : ℕ) where
         let finding = Faulted f.number f.values f.kind f.at in
         let found : probes bytes f.core tuples ticks f.entry due (Ok answer) = record { finding = finding; finds = f.finds; answer = refl } in
         let entered : probes_source source name tuples ticks bytes due (Ok answer) = goes_on (checked f.core f.flow) f.program (goes_on f.entry (f.routine, f.named) found) in
-        exactly s status k steps h apart told (Ok answer) (goes_on bytes (alone_due s source bytes alone) entered)
+        exactly s status k steps h apart (Ok answer) (goes_on bytes (alone_due s source bytes told alone) entered)
 
 pub probes_right : ProbesAreRight
 probes_right s source name tuples ticks status k h = record { faults = shows_fault s source name tuples ticks status k h; is_due = shows_due s source name tuples ticks status k h }

@@ -3,7 +3,7 @@ use Rattle.std.proofs.Common.{◌≡◌, ◌≢◌, ◌∙◌, ℕ, List, [], �
 use Rattle.std.specs.Prelude.{slice_get}
 use Rattle.wy_port.specs.Told.{Told, MayBe}
 use Rattle.wy_port.specs.Told.Told.{Unknown, Lacking, Holding}
-use Rattle.wy_top.specs.wy_top_answers.Steps.{IsTold, Setting, due, goes_on, stated}
+use Rattle.wy_top.specs.wy_top_answers.Steps.{Came, IsTold, Setting, due, ends, goes_on, stated}
 use Rattle.wy_top.specs.wy_cert.Steps.{Certificates}
 use Rattle.wy_core.specs.CoreTree.{Core, Routine, routines_of}
 use Rattle.wy_top.specs.wy_eval_exprs.Settings.{here}
@@ -33,7 +33,7 @@ use Rattle.wy_top.specs.wy_link_load.declared.loading.Sources.{Sources}
 use Rattle.wy_top.proofs.wy_link_load_proofs.AloneLemmas.{takes_nothing}
 use Rattle.wy_top.proofs.wy_probe_proofs.RoutineLemmas.{callee_at}
 use Rattle.wy_top.proofs.wy_top_source_proofs.OneLemmas.{one_core}
-use Rattle.wy_top.specs.wy_top_answers.supplied.Certificates.{certificates, from_file, without}
+use Rattle.wy_top.specs.wy_top_answers.supplied.Certificates.{IsFileTold, certificates, from_file, without}
 use Rattle.wy_top.specs.wy_top_source.Sources.{IsProgram}
 use Rattle.wy_top.specs.Acceptance.{Acceptance, IsAccepted, accepts_file, accepts_source, are_closed}
 use Rattle.wy_top.specs.Going.{AcceptedRunsGo}
@@ -45,7 +45,7 @@ use Rattle.wy_top.proofs.ShownLemmas.{closed_is_true}
 use Rattle.wy_value.specs.Datum.{Datum}
 use Rattle.wy_value.specs.Seen.{seen}
 use Rattle.wy_value.specs.declared.value.Value.{Value}
-use Rattle.wy_headline.specs.Accepted.{AcceptedIsTrue, AcceptsBytes, AcceptsFile}
+use Rattle.wy_headline.specs.Accepted.{AcceptedIsTrue, AcceptsBytes, AcceptsFile, AreTold}
 use Rattle.wy_headline.specs.Runs.{Entry}
 use Rattle.wy_headline.specs.Started.{IsStart, IsStarted}
 
@@ -54,7 +54,7 @@ use Rattle.wy_headline.specs.Started.{IsStart, IsStarted}
 -- the program is the one that is kept
 record AcceptedAs (s : Setting) (cert : List ℕ) (budget : ℕ) (bytes : List ℕ) (certs : Certificates) (a : Acceptance) (p : Program) : Type 0 where
   owes : Owes bytes p.core p.flow
-  given : certificates s cert (count_of p) (Ok certs)
+  given : certificates s cert (count_of p) stated (Ok certs)
   accepted : IsAccepted cert p certs budget a
 
 kept : (s : Setting) (cert : List ℕ) (budget : ℕ) (bytes : List ℕ) (certs : Certificates) (a : Acceptance) (p : Program) → AcceptedAs s cert budget bytes certs a p → AcceptsBytes s cert budget bytes a
@@ -82,11 +82,11 @@ accepts_in s source cert budget a h = let f = both_came _ _ a h in record { byte
 
 -- ---- acceptance that is due
 
-pub alone_due : (s : Setting) (name bytes : List ℕ) → IsAlone s name bytes → loads_alone s name due (Ok bytes)
-alone_due s name bytes h =
+pub alone_due : (s : Setting) (name bytes : List ℕ) → IsTold s name → IsAlone s name bytes → loads_alone s name due (Ok bytes)
+alone_due s name bytes told h =
     let file : SourceFile = record { name = name; bytes = bytes; program = h.program } in
     let all : Sources = record { imported = []; source = file } in
-    let read : reads s name due (Ok file) = goes_on bytes h.loads (record { named = refl; holds = refl; spelled = h.spelled }) in
+    let read : reads s name due (Ok file) = goes_on bytes (told, h.loads) (record { named = refl; holds = refl; spelled = h.spelled }) in
     let none : loads_imports (loads_file 63 s (name ∷ [])) 63 (name ∷ []) file [] h.program.imports [] due (Ok []) =
     subst (λ (imports : List (List ℕ × ℕ)). loads_imports (loads_file 63 s (name ∷ [])) 63 (name ∷ []) file [] imports [] due (Ok [])) (sym h.nothing) refl in
     let behind : loads_behind s file due (Ok all) = goes_on [] none refl in
@@ -96,16 +96,22 @@ alone_due s name bytes h =
 closed_so : (s : Setting) (cert : List ℕ) (budget : ℕ) (bytes : List ℕ) (a : Acceptance) (h : AcceptsBytes s cert budget bytes a) → are_closed h.verdicts ≡ true
 closed_so s cert budget bytes a h = closed_all h.certs budget 1 (conditions_of a.program) h.verdicts h.known h.certified
 
-pub bytes_due : (s : Setting) (source cert : List ℕ) (budget : ℕ) (bytes : List ℕ) (a : Acceptance) → AcceptsBytes s cert budget bytes a → accepts_source s source cert budget bytes due (Ok a)
-bytes_due s source cert budget bytes a h =
-    goes_on a.program h.owes (goes_on h.certs h.given (record { program = refl; verdicts = h.verdicts; known = h.known; closed = closed_so s cert budget bytes a h; lines = h.lines }))
+-- the certificates of a told file, or none
+certificates_due : (s : Setting) (name : List ℕ) (count : ℕ) (r : Came Certificates) → IsFileTold s name → certificates s name count stated r → certificates s name count due r
+certificates_due s name count r told (without is e) = without is e
+certificates_due s name count r told (from_file is (goes_on bytes h g)) = from_file is (goes_on bytes (told is, h) g)
+certificates_due s name count r told (from_file is (ends a h e)) = from_file is (ends a (told is, h) e)
 
-pub file_due : (s : Setting) (source cert : List ℕ) (budget : ℕ) (a : Acceptance) → AcceptsFile s source cert budget a → accepts_file s source cert budget due (Ok a)
-file_due s source cert budget a h = goes_on h.bytes (alone_due s source h.bytes h.alone) (bytes_due s source cert budget h.bytes a h.accepts)
+pub bytes_due : (s : Setting) (source cert : List ℕ) (budget : ℕ) (bytes : List ℕ) (a : Acceptance) → IsFileTold s cert → AcceptsBytes s cert budget bytes a → accepts_source s source cert budget bytes due (Ok a)
+bytes_due s source cert budget bytes a told h =
+    goes_on a.program h.owes (goes_on h.certs (certificates_due s cert (count_of a.program) (Ok h.certs) told h.given) (record { program = refl; verdicts = h.verdicts; known = h.known; closed = closed_so s cert budget bytes a h; lines = h.lines }))
+
+pub file_due : (s : Setting) (source cert : List ℕ) (budget : ℕ) (a : Acceptance) → AreTold s source cert → AcceptsFile s source cert budget a → accepts_file s source cert budget due (Ok a)
+file_due s source cert budget a told h = goes_on h.bytes (alone_due s source h.bytes told.source_is h.alone) (bytes_due s source cert budget h.bytes a told.cert_is h.accepts)
 
 -- ---- what is accepted
 
-given_sorted : (s : Setting) (name : List ℕ) (count : ℕ) (certs : Certificates) → certificates s name count (Ok certs) → AreSortedCertificates certs
+given_sorted : (s : Setting) (name : List ℕ) (count : ℕ) (certs : Certificates) → certificates s name count stated (Ok certs) → AreSortedCertificates certs
 given_sorted s name count certs (without is e) = subst AreSortedCertificates (sym (value_is certs [] e)) tt
 given_sorted s name count certs (from_file is h) = let f = both_came _ _ certs h in reads_sorted count f.value certs f.then.holds
 
@@ -121,9 +127,9 @@ same_bytes Lacking bs cs told b c = absurd b
 same_bytes (Holding known) bs cs told b c = sym b ∙ c
 
 -- a file that is told has one core
-same_core : (s : Setting) (source cert : List ℕ) (budget : ℕ) (a b : Acceptance) → IsTold s → AcceptsFile s source cert budget a → AcceptsFile s source cert budget b → a.program.core ≡ b.program.core
+same_core : (s : Setting) (source cert : List ℕ) (budget : ℕ) (a b : Acceptance) → IsTold s source → AcceptsFile s source cert budget a → AcceptsFile s source cert budget b → a.program.core ≡ b.program.core
 same_core s source cert budget a b told f g =
-    let same = same_bytes (s.told source) f.bytes g.bytes (told source) f.alone.loads.told g.alone.loads.told in
+    let same = same_bytes (s.told source) f.bytes g.bytes told f.alone.loads.told g.alone.loads.told in
     one_core f.bytes a.program.core b.program.core a.program.flow b.program.flow f.accepts.owes.program
     (subst (λ (bytes : List ℕ). IsProgram bytes b.program.core b.program.flow) (sym same) g.accepts.owes.program)
 
@@ -158,10 +164,10 @@ starts_so core name arguments e h = record { routine = e.routine; entry = h.name
 abbrev pub launch_in : (s : Setting) (source cert name arguments : List ℕ) (budget : ℕ) (lines : List ℕ) (e : Entry) → IsStarted s source cert name arguments budget lines e → Launch
 launch_in s source cert name arguments budget lines e h = launch_of h.acceptance.lines (start_of h.acceptance.program.core e h.starts.args)
 
-pub run_due : (s : Setting) (source cert name arguments : List ℕ) (budget : ℕ) (lines : List ℕ) (e : Entry) (h : IsStarted s source cert name arguments budget lines e)
+pub run_due : (s : Setting) (source cert name arguments : List ℕ) (budget : ℕ) (lines : List ℕ) (e : Entry) → AreTold s source cert → (h : IsStarted s source cert name arguments budget lines e)
     → run_steps s source cert name arguments budget due (Ok (launch_in s source cert name arguments budget lines e h))
-run_due s source cert name arguments budget lines e h =
-    goes_on h.acceptance (file_due s source cert budget h.acceptance h.file) (record { lines_are = refl; starts = starts_so h.acceptance.program.core name arguments e h.starts })
+run_due s source cert name arguments budget lines e told h =
+    goes_on h.acceptance (file_due s source cert budget h.acceptance told h.file) (record { lines_are = refl; starts = starts_so h.acceptance.program.core name arguments e h.starts })
 
 -- ---- both are one
 
@@ -195,7 +201,7 @@ start_again core name arguments e h = same_parts core e.core e.number e.number e
 
 -- where the launch that is due came, its entry is the one that is started
 pub one_entry : (s : Setting) (source cert name arguments : List ℕ) (budget : ℕ) (lines : List ℕ) (e : Entry) (h : IsStarted s source cert name arguments budget lines e) (l : Launch)
-    → (of : IsRunOf s source cert name arguments budget l) → IsTold s → launch_in s source cert name arguments budget lines e h ≡ l
+    → (of : IsRunOf s source cert name arguments budget l) → IsTold s source → launch_in s source cert name arguments budget lines e h ≡ l
     → entry_of of.acceptance.program.core name arguments l.start of.launched.starts ≡ e
 one_entry s source cert name arguments budget lines e h l of told is =
     same_entry h.acceptance.program.core of.acceptance.program.core name arguments e h.starts l.start of.launched.starts

@@ -67,7 +67,7 @@ outside_by Q four nine s a (memory e) = subst (λ (b : Answer). Q b.status) (sym
 outside_by Q four nine s a (failed name e rose) = subst (λ (b : Answer). Q b.status) (sym e) four
 
 module _ (P : Answer → Type 0) (c : Refuses P) where
-  pub loaded_refused : (s : Setting) (name : List ℕ) (limit : ℕ) (a : Answer) → loaded s name limit (Err a) → P a
+  pub loaded_refused : (s : Setting) (name : List ℕ) (limit : ℕ) (a : Answer) → loaded s name limit stated (Err a) → P a
   loaded_refused s name limit a h = subst P (sym h.answer) (c.not_loaded h.fault name)
 
   pub alone_refused : (s : Setting) (name : List ℕ) (a : Answer) → loads_alone s name stated (Err a) → P a
@@ -76,7 +76,7 @@ module _ (P : Answer → Type 0) (c : Refuses P) where
   pub owes_refused : (name bytes : List ℕ) (a : Answer) → owes name bytes stated (Err a) → P a
   owes_refused name bytes a h = subst P (sym h.answer) (c.refuses _)
 
-  certificates_refused : (s : Setting) (name : List ℕ) (count : ℕ) (a : Answer) → certificates s name count (Err a) → P a
+  certificates_refused : (s : Setting) (name : List ℕ) (count : ℕ) (a : Answer) → certificates s name count stated (Err a) → P a
   certificates_refused s name count a (without is e) = absurd (no_value [] a e)
   certificates_refused s name count a (from_file is h) = of_steps P _ _ (λ b g. loaded_refused s name _ b g) (λ bytes b g. subst P (sym g.answer) (c.no_certificates _)) a h
 

@@ -8,9 +8,11 @@ use Rattle.wy_top.specs.wy_batch.Known.{Known}
 use Rattle.wy_top.specs.wy_cert.Steps.{Certificates, Written}
 use Rattle.wy_top.specs.wy_check.Verdicts.{certificate_for}
 use Rattle.wy_top.specs.wy_link_load.Alone.{IsAlone}
+use Rattle.wy_top.specs.wy_top_answers.Answers.{refused}
 use Rattle.wy_top.specs.wy_top_answers.Showing.{ShowsWhole, Sinks}
-use Rattle.wy_top.specs.wy_top_answers.Steps.{IsTold, Setting}
-use Rattle.wy_top.specs.wy_top_answers.supplied.Certificates.{certificates}
+use Rattle.wy_top.specs.wy_top_answers.Steps.{IsTold, Setting, stated}
+use Rattle.wy_top.specs.wy_top_answers.Texts.{load_failed as load_line}
+use Rattle.wy_top.specs.wy_top_answers.supplied.Certificates.{IsFileTold, certificates}
 use Rattle.wy_top.specs.wy_top_answers.wy_check_spec.valid.Validity.{IsValid}
 use Rattle.wy_top.specs.Acceptance.{Acceptance, AreVerdicts, check_steps, checked_answer}
 use Rattle.wy_top.specs.Owed.{Owes}
@@ -36,7 +38,7 @@ AreCertified certs budget n (c ∷ cs) = IsCertified certs budget n c × AreCert
 pub record AcceptsBytes (s : Setting) (cert : List ℕ) (budget : ℕ) (bytes : List ℕ) (a : Acceptance) : Type 0 where
   pub owes : Owes bytes a.program.core a.program.flow
   pub certs : Certificates
-  pub given : certificates s cert (count_of a.program) (Ok certs)
+  pub given : certificates s cert (count_of a.program) stated (Ok certs)
   pub certified : AreCertified certs budget 1 (conditions_of a.program)
   pub verdicts : List Known
   pub known : AreVerdicts certs budget a.program verdicts
@@ -48,24 +50,29 @@ pub record AcceptsFile (s : Setting) (source cert : List ℕ) (budget : ℕ) (a 
   pub alone : IsAlone s source bytes
   pub accepts : AcceptsBytes s cert budget bytes a
 
+-- the file with the source is told, and the one with the certificates, if one is named
+pub record AreTold (s : Setting) (source cert : List ℕ) : Type 0 where
+  pub source_is : IsTold s source
+  pub cert_is : IsFileTold s cert
+
 -- all conditions of an accepted program are true, whatever their names stand for
 abbrev pub AcceptedIsTrue : Type 0
 AcceptedIsTrue = (s : Setting) (cert : List ℕ) (budget : ℕ) (bytes : List ℕ) (a : Acceptance) → AcceptsBytes s cert budget bytes a → AllHold (conditions_of a.program)
 
 -- ---- the outside
 
--- what may come in place of what is due: a load or a sink failed, and was counted, or memory ran out
+-- what may come in place of what is due: the load of a file failed and was counted, and its line is shown; or a sink failed and was counted; or memory ran out
 pub data IsCutShort (s : Setting) (status : ℕ) (k : Sinks) : Type 0 where
-  load_failed : status ≡ 4 → Rose s.faults_before s.faults_after → IsCutShort s status k
+  load_failed : (name : List ℕ) → Rose (s.faults_before name) (s.faults_after name) → ShowsWhole (refused 4 (load_line name)) status k → IsCutShort s status k
   sink_failed : status ≡ 5 → Rose k.out_faults_before k.out_faults_after ⊎ Rose k.err_faults_before k.err_faults_after → IsCutShort s status k
   no_memory : status ≡ 9 → IsCutShort s status k
 
 -- ---- the command `check`
 
--- status 0 comes only where the program is accepted, with the line that says so; and where files are told and it is accepted, that is what comes, unless it is cut short
+-- status 0 comes only where the program is accepted, with the line that says so; and where its files are told and it is accepted, that is what comes, unless it is cut short
 pub record MeansCheck (s : Setting) (source cert : List ℕ) (budget status : ℕ) (k : Sinks) : Type 0 where
   pub accepted : status ≡ 0 → (a : Acceptance) × AcceptsFile s source cert budget a × ShowsWhole (checked_answer a) status k
-  pub accepted_where : IsTold s → (a : Acceptance) → AcceptsFile s source cert budget a → ShowsWhole (checked_answer a) status k ⊎ IsCutShort s status k
+  pub accepted_where : AreTold s source cert → (a : Acceptance) → AcceptsFile s source cert budget a → ShowsWhole (checked_answer a) status k ⊎ IsCutShort s status k
 
 abbrev pub ChecksAreRight : Type 0
 ChecksAreRight = (s : Setting) (source cert : List ℕ) (budget status : ℕ) (k : Sinks) → IsAnswered s (check_steps s source cert budget) status k → MeansCheck s source cert budget status k

@@ -4,7 +4,7 @@ use Rattle.wy_port.specs.Count.{Rose}
 use Rattle.wy_port.specs.Told.{IsSaved}
 use Rattle.wy_top.specs.wy_top_answers.Answers.{refused}
 use Rattle.wy_top.specs.wy_top_answers.Showing.{ShowsWhole, Sinks}
-use Rattle.wy_top.specs.wy_top_answers.Steps.{Came, IsTold, Sense, Setting, answer_in, due, stated}
+use Rattle.wy_top.specs.wy_top_answers.Steps.{Came, Sense, Setting, answer_in, due, stated}
 use Rattle.wy_top.specs.wy_top_answers.declared.answer.Answer.{Answer}
 use Rattle.wy_top.specs.wy_top_answers.report.Lines.{words_refused}
 use Rattle.wy_top.specs.Acceptance.{check_steps}
@@ -21,21 +21,22 @@ use Rattle.wy_top.specs.declared.launching.Launch.{Launch}
 use Rattle.wy_top.specs.declared.texts.Text.TheVariants as text
 use Rattle.wy_top_words.specs.CommandLine.{Asked, check, run, prove, conds, fmt, dis, big, probe, command_of}
 use Rattle.wy_value.specs.Datum.{Datum}
+use Rattle.wy_headline.specs.Accepted.{AreTold}
 use Rattle.wy_headline.specs.Large.{IsLargeRun, line_of}
 use Rattle.wy_headline.specs.Runs.{EndsDone, Entry, IsDoneWithin}
 use Rattle.wy_headline.specs.Started.{IsStarted}
 
 -- no count of faults rose in the call
 pub record NoneRose (s : Setting) (v : Saving) (k : Sinks) : Type 0 where
-  pub loads : Rose s.faults_before s.faults_after → ⊥
+  pub loads : (name : List ℕ) → Rose (s.faults_before name) (s.faults_after name) → ⊥
   pub saves : Rose v.faults_before v.faults_after → ⊥
   pub out : Rose k.out_faults_before k.out_faults_after → ⊥
   pub err : Rose k.err_faults_before k.err_faults_after → ⊥
 
--- these steps come to this; and where files are told, nothing else is due, but for want of memory, and for a condition that was found and not certified
+-- these steps come to this; and of told files nothing else is due, but for want of memory, and for a condition that was found and not certified
 pub record IsDefined {X : Type 0} (s : Setting) (step : Sense → Came X → Type 0) (status : ℕ) (r : Came X) : Type 0 where
   pub comes : step stated r
-  pub only : IsTold s → (other : Came X) → step due other → (other ≡ r) ⊎ ((status ≡ 9) ⊎ (status ≡ 13))
+  pub only : (other : Came X) → step due other → (other ≡ r) ⊎ ((status ≡ 9) ⊎ (status ≡ 13))
 
 -- an answer to which these steps come is shown whole
 pub record AnswersWhole (s : Setting) (step : Sense → Came Answer → Type 0) (status : ℕ) (k : Sinks) : Type 0 where
@@ -50,19 +51,19 @@ abbrev pub ShowsRunWhole : ℕ → Bool → ℕ → Sinks → Came Launch → Ty
 ShowsRunWhole steps stats status k (Ok l) = Ran l steps stats status k × ((status ≡ 0) ⊎ (status ≡ 8))
 ShowsRunWhole steps stats status k (Err a) = ShowsWhole a status k
 
--- beside that, where files are told and the program that starts is done within the steps, the status is 0, and out took its output and the text of its value
+-- beside that, where its files are told and the program that starts is done within the steps, the status is 0, and out took its output and the text of its value
 pub record RunsWhole (s : Setting) (source cert name arguments : List ℕ) (budget steps : ℕ) (stats : Bool) (status : ℕ) (k : Sinks) : Type 0 where
   pub launch : Came Launch
   pub defined : IsDefined s (run_steps s source cert name arguments budget) status launch
   pub shown : ShowsRunWhole steps stats status k launch
-  pub surely : IsTold s → (lines : List ℕ) (e : Entry) → IsStarted s source cert name arguments budget lines e → (v : Datum) (output : List ℕ) → IsDoneWithin e steps v output → EndsDone e v output status k ⊎ (status ≡ 9)
+  pub surely : AreTold s source cert → (lines : List ℕ) (e : Entry) → IsStarted s source cert name arguments budget lines e → (v : Datum) (output : List ℕ) → IsDoneWithin e steps v output → EndsDone e v output status k ⊎ (status ≡ 9)
 
 -- ---- the command `big`
 
 -- likewise of its own source, with its one line
 pub record LargeWhole (s : Setting) (functions seed budget steps : ℕ) (status : ℕ) (k : Sinks) : Type 0 where
   pub answers : AnswersWhole s (big_steps s functions seed budget steps) status k
-  pub surely : IsTold s → (e : Entry) (of : IsLargeRun s functions seed budget e) (v : Datum) (output : List ℕ) → IsDoneWithin e steps v output
+  pub surely : (e : Entry) (of : IsLargeRun s functions seed budget e) (v : Datum) (output : List ℕ) → IsDoneWithin e steps v output
       → ShowsWhole (line_of functions (count_of of.acceptance.program) e v output) status k ⊎ (status ≡ 9)
 
 -- ---- the command `prove`

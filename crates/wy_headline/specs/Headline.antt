@@ -3,13 +3,13 @@
 -- The program is accepted, memory aside, exactly where it is typed, assigned and within the limits, and each of its conditions has a valid certificate, supplied or found within the budget. A run then starts exactly where the arguments meet the precondition, it never faults, and its result and output are those of the value semantics and meet the postcondition.
 use Rattle.std.specs.Prelude.{◌≡◌, ◌⊎◌, ℕ, List, Bool, Option, Some, None, IfSome, Err}
 use Rattle.wy_top.specs.wy_top_answers.Showing.{Shown, ShowsWhole, Sinks}
-use Rattle.wy_top.specs.wy_top_answers.Steps.{IsOutside, IsTold, Setting, due, stated}
+use Rattle.wy_top.specs.wy_top_answers.Steps.{IsOutside, Setting, due, stated}
 use Rattle.wy_top.specs.wy_top_answers.declared.answer.Answer.{Answer}
 use Rattle.wy_top.specs.Acceptance.{Acceptance}
 use Rattle.wy_top.specs.Launching.{run_steps, starts}
 use Rattle.wy_top.specs.Statement.{IsRun}
 use Rattle.wy_value.specs.Datum.{Datum}
-use Rattle.wy_headline.specs.Accepted.{AcceptsFile, IsCutShort}
+use Rattle.wy_headline.specs.Accepted.{AcceptsFile, AreTold, IsCutShort}
 use Rattle.wy_headline.specs.Runs.{EndsDone, Entry, IsDoneWithin, MeetsPostcondition, NeverFaults, ShowsCutOff, ShowsFailed, ShowsResult, ShowsSpent}
 use Rattle.wy_headline.specs.Started.{IsStarted}
 
@@ -33,12 +33,12 @@ pub record Headline (s : Setting) (source cert name arguments : List ℕ) (budge
   -- what runs, if a run starts; and the lines for certificates that aren't valid
   pub run : Option Entry
   pub lines : List ℕ
-  -- Accepted exactly where: a run, and a refusal of its entry or its arguments, come only where the program is accepted; and where files are told and it is accepted, what is due of the entry and the arguments is what comes, unless it is cut short.
+  -- Accepted exactly where: a run, and a refusal of its entry or its arguments, come only where the program is accepted; and where its files are told and it is accepted, what is due of the entry and the arguments is what comes, unless it is cut short.
   pub accepted : IsBehind status → Accepts s source cert budget
-  pub accepted_where : IsTold s → (a : Acceptance) → AcceptsFile s source cert budget a → (b : Answer) → starts name arguments a due (Err b) → ShowsWhole b status k ⊎ IsCutShort s status k
-  -- A run starts exactly where: it is one of the accepted program from the entry that the words name, on the values that they spell, which meet it; and where files are told, each such run is the one that starts, unless that is cut short. Else the answer of why is shown.
+  pub accepted_where : AreTold s source cert → (a : Acceptance) → AcceptsFile s source cert budget a → (b : Answer) → starts name arguments a due (Err b) → ShowsWhole b status k ⊎ IsCutShort s status k
+  -- A run starts exactly where: it is one of the accepted program from the entry that the words name, on the values that they spell, which meet it; and where these files are told, each such run is the one that starts, unless that is cut short. Else the answer of why is shown.
   pub starts_only : IfSome run (IsStarted s source cert name arguments budget lines)
-  pub starts_where : IsTold s → (its : List ℕ) (e : Entry) → IsStarted s source cert name arguments budget its e → (run ≡ Some e) ⊎ IsCutShort s status k
+  pub starts_where : AreTold s source cert → (its : List ℕ) (e : Entry) → IsStarted s source cert name arguments budget its e → (run ≡ Some e) ⊎ IsCutShort s status k
   pub refused : run ≡ None → (a : Answer) × HasNoRun s source cert name arguments budget a × Shown a status k
   -- It never faults.
   pub never_faults : IfSome run NeverFaults

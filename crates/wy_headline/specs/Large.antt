@@ -3,7 +3,7 @@ use Rattle.std.specs.Prelude.{◌≡◌, ◌⊎◌, ◌++◌, ◌≤◌, ℕ, Li
 use Rattle.wy_top.specs.wy_top_answers.Answers.{refused, written as writes}
 use Rattle.wy_top.specs.wy_top_answers.Loading.{source_limit}
 use Rattle.wy_top.specs.wy_top_answers.Showing.{Shown, ShowsWhole, Sinks}
-use Rattle.wy_top.specs.wy_top_answers.Steps.{Came, IsOutside, IsTold, Sense, Setting, and_then, stated}
+use Rattle.wy_top.specs.wy_top_answers.Steps.{Came, IsOutside, Sense, Setting, and_then, stated}
 use Rattle.wy_top.specs.wy_top_answers.declared.answer.Answer.{Answer}
 use Rattle.wy_top_big.specs.Source.{argument_text, entry, source_of}
 use Rattle.wy_top.specs.wy_eval_exprs.Settings.{here}
@@ -54,12 +54,12 @@ pub data ComesToLarge (s : Setting) (functions seed budget steps : ℕ) (a : Ans
   -- a step before the run came to the answer, or it came from outside
   refused_large : large_start s functions seed budget stated (Err a) ⊎ IsOutside s a → ComesToLarge s functions seed budget steps a
 
--- what the command comes to; and where files are told, the run that is due is the one that comes, unless it is cut short
+-- what the command comes to; and the run that is due is the one that comes, unless it is cut short
 pub record ShowsLarge (s : Setting) (functions seed budget steps : ℕ) (status : ℕ) (k : Sinks) : Type 0 where
   pub answer : Answer
   pub comes : ComesToLarge s functions seed budget steps answer
   pub shown : Shown answer status k
-  pub is_due : IsTold s → (e : Entry) (of : IsLargeRun s functions seed budget e) → ((a : Answer) × RanLarge s functions seed budget steps e of a × ShowsWhole a status k) ⊎ IsCutShort s status k
+  pub is_due : (e : Entry) (of : IsLargeRun s functions seed budget e) → ((a : Answer) × RanLarge s functions seed budget steps e of a × ShowsWhole a status k) ⊎ IsCutShort s status k
 
 abbrev pub LargeRunsAreRight : Type 0
 LargeRunsAreRight = (s : Setting) (functions seed budget steps : ℕ) (status : ℕ) (k : Sinks) → IsAnswered s (big_steps s functions seed budget steps) status k → ShowsLarge s functions seed budget steps status k

@@ -47,10 +47,10 @@ pub record FaultsIn (s : Setting) (source name : List ℕ) (tuples ticks : ℕ) 
   pub shown : ShowsWhole (answer_of bytes name tuples ticks faults) status k
   pub never : IsNeverAccepted bytes
 
--- Status 12 comes where the source faults so; and where files are told it is what comes then, its line whole, unless it is cut short.
+-- Status 12 comes where the source faults so; and where the file is told it is what comes then, its line whole, unless it is cut short.
 pub record MeansProbe (s : Setting) (source name : List ℕ) (tuples ticks : ℕ) (status : ℕ) (k : Sinks) : Type 0 where
   pub faults : status ≡ 12 → FaultsIn s source name tuples ticks status k
-  pub is_due : IsTold s → (bytes : List ℕ) → IsAlone s source bytes → (f : Faults bytes name tuples ticks) → ShowsWhole (answer_of bytes name tuples ticks f) status k ⊎ IsCutShort s status k
+  pub is_due : IsTold s source → (bytes : List ℕ) → IsAlone s source bytes → (f : Faults bytes name tuples ticks) → ShowsWhole (answer_of bytes name tuples ticks f) status k ⊎ IsCutShort s status k
 
 abbrev pub ProbesAreRight : Type 0
 ProbesAreRight = (s : Setting) (source name : List ℕ) (tuples ticks : ℕ) (status : ℕ) (k : Sinks)

@@ -34,7 +34,7 @@ of_steps P first next one two a (ends b h e) = subst P (sym (one_answer a b e)) 
 
 read_covered : (P : Answer → Type 0) → Covers P → (s : Setting) (name : List ℕ) (a : Answer) → reads s name stated (Err a) → P a
 read_covered P c s name a h =
-    of_steps P (loaded s name source_limit) (λ bytes. spelled name bytes stated) (λ b g. subst P (sym g.answer) (c.not_loaded g.fault name)) (λ bytes b g. subst P (sym g.answer) (c.refuses _)) a h
+    of_steps P (loaded s name source_limit stated) (λ bytes. spelled name bytes stated) (λ b g. subst P (sym g.answer) (c.not_loaded g.fault name)) (λ bytes b g. subst P (sym g.answer) (c.refuses _)) a h
 
 -- ---- imports
 

@@ -16,7 +16,7 @@ use Rattle.wy_link_load.specs.declared.loading.Sources.{Sources}
 -- ---- single steps
 
 pub comes : {X : Type 0} (s : Setting) (x : X) → Gives s (comes_to x) (Ok x)
-comes s x = value_gives s (comes_to x) x refl (λ told other h. h)
+comes s x = value_gives s (comes_to x) x refl (λ other h. h)
 
 -- ---- the stack
 

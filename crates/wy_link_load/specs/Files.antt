@@ -6,7 +6,7 @@ use Rattle.wy_parse_front.specs.Places.{place_of}
 use Rattle.wy_parse_front.specs.declared.fault.SourceFault.{SourceFault}
 use Rattle.wy_top_answers.specs.Calls.{Faults, called}
 use Rattle.wy_top_answers.specs.Loading.{loaded, source_limit}
-use Rattle.wy_top_answers.specs.Steps.{Came, Sense, stated, due, Setting, and_then, both}
+use Rattle.wy_top_answers.specs.Steps.{Came, Sense, stated, due, Setting, and_then}
 use Rattle.wy_top_answers.specs.report.Lines.{source_fault}
 use Rattle.wy_link_load.specs.declared.file.SourceFile.{SourceFile}
 
@@ -37,4 +37,4 @@ spelled name bytes = called (λ m file. IsFile name bytes file) (text_faults nam
 
 -- the file with this name is loaded and read
 abbrev pub reads : Setting → List ℕ → Sense → Came SourceFile → Type 0
-reads s name = and_then (both (loaded s name source_limit)) (λ bytes. spelled name bytes)
+reads s name = and_then (loaded s name source_limit) (λ bytes. spelled name bytes)

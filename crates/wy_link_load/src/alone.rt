@@ -28,8 +28,8 @@ pub fn load_alone<F: Files>(alloc: Global, name: &str, files: &mut F) -> Result<
     ensures gives { During (F.told files.old) (F.load_faults files.old) (F.load_faults files.new) (F.misses files.old) (F.misses files.new) (λ s. Gives s (spec.loads_alone s name.now) result) }
     ensures within { IfOk result (λ bytes. length bytes ≤ source_limit) }
     ensures kept { (other : List ℕ) → F.told files.new other ≡ F.told files.old other }
-    ensures load_count { F.load_faults files.old ≤ F.load_faults files.new }
-    ensures miss_count { F.misses files.old ≤ F.misses files.new }
+    ensures load_count { (other : List ℕ) → F.load_faults files.old other ≤ F.load_faults files.new other }
+    ensures miss_count { (other : List ℕ) → F.misses files.old other ≤ F.misses files.new other }
     ensures save_count { F.save_faults files.new ≡ F.save_faults files.old }
 {
     match load_program(alloc, name, files) {

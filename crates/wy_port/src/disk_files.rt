@@ -1,5 +1,7 @@
 //! Files of the system.
-ghost use Rattle.std.specs.Prelude.{◌≡◌, ◌≤◌, IfOk, vec_len};
+ghost use Rattle.std.specs.Prelude.{◌≡◌, ◌≢◌, ◌<◌, ◌≤◌, ◌+◌, length, IfOk, OnOk, IfSome, IsErrOf, vec_len};
+ghost use Rattle.std.specs.Io.KnownBytes.{Consumes, IsAtEnd};
+ghost use Rattle.wy_port.specs.Given.{GaveAtMost};
 ghost use Rattle.wy_port.specs.Told.Told.{Unknown};
 
 use crate::files::{Files, LoadFault, SaveFault};
@@ -10,9 +12,9 @@ use std::{fs, rt};
 
 /// The files of a runtime, as those of the system. It tells no contents.
 ///
-/// A name is a path. Its counts stand at 0 first. A load reads at most one byte more than its limit. A save writes a new
-/// file beside the old one, makes it whole on the disk and puts it in the old one's place, so that on any failure the old
-/// file is as it was. What is no regular file, as a terminal or a pipe, is written over.
+/// A name is a path. Its counts, one for the faults of all names, stand at 0 first. A load reads at most one byte more than
+/// its limit. A save writes a new file beside the old one, makes it whole on the disk and puts it in the old one's place, so
+/// that on any failure the old file is as it was. What is no regular file, as a terminal or a pipe, is written over.
 #[derive(Drop)]
 pub struct DiskFiles<'a, R: rt::Files> {
     rt: &'a R,
@@ -38,7 +40,9 @@ impl<'a, R: rt::Files> DiskFiles<'a, R> {
 }
 
 // What an error of the system means for a load.
-fn load_fault(kind: ErrorKind) -> LoadFault {
+fn load_fault(kind: ErrorKind) -> LoadFault
+    ensures known { result ≢ LoadFault.TooLong }
+{
     match kind {
         ErrorKind::NotFound => LoadFault::Absent,
         ErrorKind::OutOfMemory => LoadFault::NoMemory,
@@ -46,9 +50,13 @@ fn load_fault(kind: ErrorKind) -> LoadFault {
     }
 }
 
-// All that a reader gives, in at most so many bytes. It is asked for at most one byte more.
+// All that a reader gives, in at most so many bytes. It takes at most one byte more from it.
 fn read_up_to<T: Read>(alloc: Global, reader: &mut T, limit: u64) -> Result<Vec<u8>, LoadFault>
     ensures within { IfOk result (λ bytes. vec_len bytes ≤ limit) }
+    ensures whole { IfOk result (λ bytes. Consumes (T.remaining reader.old) (T.remaining reader.new) bytes.items) }
+    ensures end { OnOk result (IsAtEnd (T.remaining reader.new)) }
+    ensures longer { IsErrOf result LoadFault.TooLong → IfSome (T.remaining reader.old) (λ bytes. limit < length bytes) }
+    ensures most { GaveAtMost (T.remaining reader.old) (T.remaining reader.new) (limit + 1) }
 {
     let mut bytes = Vec::new(alloc);
     let mut piece = [0u8; 4096];
@@ -95,11 +103,11 @@ fn read_file<R: rt::Files>(
 impl<'a, R: rt::Files> Files for DiskFiles<'a, R> {
     ghost told = { λ _ _. Unknown };
 
-    ghost load_faults = { λ s. s.load_faults };
+    ghost load_faults = { λ s _. s.load_faults };
 
     ghost save_faults = { λ s. s.save_faults };
 
-    ghost misses = { λ s. s.misses };
+    ghost misses = { λ s _. s.misses };
 
     fn load(&mut self, alloc: Global, name: &str, limit: u64) -> Result<Vec<u8>, LoadFault> {
         let loaded = read_file(self.rt, alloc, name, limit);

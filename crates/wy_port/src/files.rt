@@ -62,35 +62,37 @@ impl<T: Drop> From<AllocFailed<T>> for SaveFault {
     }
 }
 
-/// A map from names to bytes, which counts its faults. Each count stays at 2^64 - 1 once it is there.
+/// A map from names to bytes, which counts its faults. Each count stays at 2^64 - 1 once it is there. A count for a name
+/// rises where a load of that name fails; what else makes it rise isn't said, so it may be one count for all names.
 pub trait Files {
     /// What is known of the file under a name.
     ghost told: { Self → List ℕ → Told };
 
-    /// How often a load has failed.
-    ghost load_faults: { Self → ℕ };
+    /// At least how often a load of the name has failed.
+    ghost load_faults: { Self → List ℕ → ℕ };
 
     /// How often a save has failed.
     ghost save_faults: { Self → ℕ };
 
-    /// How often a file of which nothing is told was absent or too long.
-    ghost misses: { Self → ℕ };
+    /// At least how often the file under the name, of which nothing is told, was absent or too long.
+    ghost misses: { Self → List ℕ → ℕ };
 
     /// The bytes under `name`, of which there are at most `limit`. It changes no file.
     ///
-    /// [`LoadFault::Failed`] comes only where the count of load faults rose. Where the file is told, the answer is
+    /// [`LoadFault::Failed`] comes only where the name's count of load faults rose. Where the file is told, the answer is
     /// [`LoadFault::Absent`] or [`LoadFault::TooLong`] exactly where it is so, but for failure and want of memory;
-    /// where it isn't told, both come only where the count of misses rose.
+    /// where it isn't told, both come only where the name's count of misses rose, and nothing is said of two loads of
+    /// the same file.
     fn load(&mut self, alloc: Global, name: &str, limit: u64) -> Result<Vec<u8>, LoadFault>
         ensures found { IfOk result (λ bytes. MayBe (told self.old name.now) bytes.items) }
         ensures within { IfOk result (λ bytes. vec_len bytes ≤ limit) }
-        ensures absent { IsErrOf result LoadFault.Absent → IsMissing (told self.old name.now) (misses self.old) (misses self.new) }
-        ensures too_long { IsErrOf result LoadFault.TooLong → IsTooLong (told self.old name.now) limit (misses self.old) (misses self.new) }
-        ensures cause { IsErrOf result LoadFault.Failed → Rose (load_faults self.old) (load_faults self.new) }
+        ensures absent { IsErrOf result LoadFault.Absent → IsMissing (told self.old name.now) (misses self.old name.now) (misses self.new name.now) }
+        ensures too_long { IsErrOf result LoadFault.TooLong → IsTooLong (told self.old name.now) limit (misses self.old name.now) (misses self.new name.now) }
+        ensures cause { IsErrOf result LoadFault.Failed → Rose (load_faults self.old name.now) (load_faults self.new name.now) }
         ensures kept { (other : List ℕ) → told self.new other ≡ told self.old other }
-        ensures load_count { load_faults self.old ≤ load_faults self.new }
+        ensures load_count { (other : List ℕ) → load_faults self.old other ≤ load_faults self.new other }
         ensures save_count { save_faults self.new ≡ save_faults self.old }
-        ensures miss_count { misses self.old ≤ misses self.new };
+        ensures miss_count { (other : List ℕ) → misses self.old other ≤ misses self.new other };
 
     /// Puts `bytes` under `name`, and leaves all other names as they were.
     ///

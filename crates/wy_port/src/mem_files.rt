@@ -12,8 +12,9 @@ use std::marker::Model;
 
 /// Files in memory. It tells what stands under each name but those that a failed save left untold.
 ///
-/// It counts its loads and saves from 0, and fails those that its maker listed. A failed save writes nothing, and
-/// leaves its name untold for good. Loads and saves take time that grows with the number of saves.
+/// It counts its loads and saves from 0, and fails those that its maker listed. The faults of all names have one count. A
+/// failed save writes nothing, and leaves its name untold for good. Loads and saves take time that grows with the number of
+/// saves.
 #[derive(Drop)]
 pub struct MemFiles {
     files: Vec<(String, Vec<u8>)>,
@@ -136,11 +137,11 @@ impl MemFiles {
 impl Files for MemFiles {
     ghost told = { told_of };
 
-    ghost load_faults = { λ s. s.load_faults };
+    ghost load_faults = { λ s _. s.load_faults };
 
     ghost save_faults = { λ s. s.save_faults };
 
-    ghost misses = { λ s. s.misses };
+    ghost misses = { λ s _. s.misses };
 
     fn load(&mut self, alloc: Global, name: &str, limit: u64) -> Result<Vec<u8>, LoadFault>
         ensures found { IfOk result (λ bytes. MayBe (told_of self.old name.now) bytes.items) }
@@ -149,9 +150,9 @@ impl Files for MemFiles {
         ensures too_long { IsErrOf result LoadFault.TooLong → IsTooLong (told_of self.old name.now) limit self.old.misses self.new.misses }
         ensures cause { IsErrOf result LoadFault.Failed → Rose self.old.load_faults self.new.load_faults }
         ensures kept { (other : List ℕ) → told_of self.new other ≡ told_of self.old other }
-        ensures load_count { self.old.load_faults ≤ self.new.load_faults }
+        ensures load_count { (other : List ℕ) → self.old.load_faults ≤ self.new.load_faults }
         ensures save_count { self.new.save_faults ≡ self.old.save_faults }
-        ensures miss_count { self.old.misses ≤ self.new.misses }
+        ensures miss_count { (other : List ℕ) → self.old.misses ≤ self.new.misses }
 
         // It fails exactly where it is listed, what it loads stands there, a miss is counted at an untold name alone,
         // and it counts the call.

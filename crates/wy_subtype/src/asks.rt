@@ -1,5 +1,6 @@
 //! What conjuncts ask: the parts whose values decide whether they have one.
-ghost use Rattle.std.specs.Prelude.{◌≡◌, ◌++◌, ◌∷◌, [], ℕ, IfOk};
+ghost use Rattle.std.specs.Prelude.{◌≡◌, ◌++◌, ◌∷◌, [], ℕ, List, map, IfOk};
+ghost use Rattle.wy_canon.specs.wy_types.declared.conjuncts.Part.{Part};
 ghost use Rattle.wy_canon.specs.wy_types.Asks as asks;
 ghost use Rattle.wy_canon.specs.wy_types.Shape.{BoolShape, IntShape, NullShape, none_in};
 
@@ -73,41 +74,30 @@ fn field_first(
     Ok(way)
 }
 
+// The fields, this one of them with the other sign of a term, for each term of the part.
 fn spread_field(
     alloc: Global,
     table: &Table,
     depth: u32,
+    before: &[(Name, Part<u32>)],
     field: &(Name, Part<u32>),
-    others: &[(Name, Part<u32>)],
+    behind: &[(Name, Part<u32>)],
     part: &[Signed<u32>],
 ) -> Result<Items<Items<(Name, Part<u32>)>>, AllocError>
-    ensures value { IfOk result (λ ways. ways ≡ asks.spread_field table.now depth field.now others.now part.now) }
+    ensures value { IfOk result (λ ways. ways ≡ map (λ (w : List (List ℕ × Part ℕ)). before.now ++ w) (asks.spread_field table.now depth field.now behind.now part.now)) }
 {
     let mut ways = Items::new(alloc);
     for signed in part {
         let terms = with_denied(alloc, table, depth, field.1.terms.as_slice(), signed)?;
-        ways.push(field_first(alloc, &field.0, terms, others)?)?;
+        let mut way = copy_fields(alloc, before)?;
+        way.append(field_first(alloc, &field.0, terms, behind)?)?;
+        ways.push(way)?;
     }
     Ok(ways)
 }
 
-fn put_first(
-    alloc: Global,
-    field: &(Name, Part<u32>),
-    ways: &[Items<(Name, Part<u32>)>],
-) -> Result<Items<Items<(Name, Part<u32>)>>, AllocError>
-    ensures value { IfOk result (λ made. made ≡ asks.put_first field.now ways.now) }
-{
-    let mut made = Items::new(alloc);
-    for way in ways {
-        let terms = copy_terms(alloc, field.1.terms.as_slice())?;
-        made.push(field_first(alloc, &field.0, terms, way.as_slice())?)?;
-    }
-    Ok(made)
-}
-
 // The fields, one of them with the other sign of a member of the other record's part there, in each
-// way.
+// way. It is linear in what it makes.
 fn spread(
     alloc: Global,
     table: &Table,
@@ -117,19 +107,15 @@ fn spread(
 ) -> Result<Items<Items<(Name, Part<u32>)>>, AllocError>
     ensures value { IfOk result (λ ways. ways ≡ asks.spread table.now depth fields.now others.now) }
 {
-    match fields {
-        [] => Ok(Items::new(alloc)),
-        [field, more_fields @ ..] => match others {
-            [] => Ok(Items::new(alloc)),
-            [other, more_others @ ..] => {
-                let terms = other.1.terms.as_slice();
-                let mut ways = spread_field(alloc, table, depth, field, more_fields, terms)?;
-                let rest = spread(alloc, table, depth, more_fields, more_others)?;
-                ways.append(put_first(alloc, field, rest.as_slice())?)?;
-                Ok(ways)
-            }
-        },
+    let mut ways = Items::new(alloc);
+    for place in 0..fields.len().min(others.len()) {
+        let before = &fields[..place];
+        let behind = &fields[place + 1..];
+        let part = others[place].1.terms.as_slice();
+        let made = spread_field(alloc, table, depth, before, &fields[place], behind, part)?;
+        ways.append(made)?;
     }
+    Ok(ways)
 }
 
 fn only_way(

@@ -45,7 +45,7 @@ accepted_gives s name cert bytes p certs budget a vs sorted formed so closed pro
     let hold : AllHold (conditions_of p) = closed_is_true certs budget 1 (conditions_of p) (map known vs) sorted formed so closed in
     value_gives s (accepts name cert bytes p certs budget) a
     (record { program = program; verdicts = map known vs; known = so; closed = closed; lines = lines }, hold)
-    (λ told other h. only_accepted name cert bytes p certs budget a.lines (map known vs) so closed lines other h ∙ ap (λ (q : Program). Ok (made q a.lines)) (sym program))
+    (λ other h. only_accepted name cert bytes p certs budget a.lines (map known vs) so closed lines other h ∙ ap (λ (q : Program). Ok (made q a.lines)) (sym program))
 
 -- ---- not accepted
 
@@ -62,4 +62,4 @@ pub unproved_gives : (s : Setting) (name cert bytes : List ℕ) (p : Program) (c
 unproved_gives s name cert bytes p certs budget a vs so some refusal =
     let lines = unproved_lines name cert bytes p budget (map known vs) in
     refusal_gives s (accepts name cert bytes p certs budget) 1 lines a refusal (record { verdicts = map known vs; known = so; some = some; answer = refl })
-    (λ told other h. only_unproved name cert bytes p certs budget (map known vs) so some other h)
+    (λ other h. only_unproved name cert bytes p certs budget (map known vs) so some other h)

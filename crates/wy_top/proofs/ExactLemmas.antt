@@ -43,7 +43,7 @@ by_last s (Err a) other status k shown (inr free) = inr (free_shown s a status k
 
 pub answered : (s : Setting) (step : Sense → Came Answer → Type 0) (status : ℕ) (k : Sinks) → IsAnswered s step status k → AnswersExactly s step status k
 answered s step status k h told other is_due =
-    by_last s h.answers.last other status k (subst (λ (a : Answer). Shown a status k) h.answers.is h.shown) (h.answers.gives.only told other is_due)
+    by_last s h.answers.last other status k (subst (λ (a : Answer). Shown a status k) h.answers.is h.shown) (h.answers.gives.only other is_due)
 
 -- ---- the command `run`
 
@@ -81,8 +81,8 @@ by_proof s source output budget v status k (Err a) other shown (inr free) = inr 
 
 pub does_exactly : DoesExactly
 does_exactly (check source cert budget) s v status k h = answered s _ status k h
-does_exactly (run source cert name arguments budget steps stats) s v status k h = λ told other is_due. by_launch s steps stats status k h.launch other h.shown (h.gives.only told other is_due)
-does_exactly (prove source output budget) s v status k h = λ told other is_due. by_proof s source output budget v status k h.proof other h.shown (h.gives.only told other is_due)
+does_exactly (run source cert name arguments budget steps stats) s v status k h = λ other is_due. by_launch s steps stats status k h.launch other h.shown (h.gives.only other is_due)
+does_exactly (prove source output budget) s v status k h = λ other is_due. by_proof s source output budget v status k h.proof other h.shown (h.gives.only other is_due)
 does_exactly (conds source) s v status k h = answered s _ status k h
 does_exactly (fmt source) s v status k h = answered s _ status k h
 does_exactly (dis source) s v status k h = answered s _ status k h

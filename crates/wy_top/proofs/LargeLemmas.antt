@@ -28,7 +28,7 @@ only_made functions seed bytes e within (Ok b) h = ap (λ (x : List ℕ). Ok x) 
 only_made functions seed bytes e within (Err a) h = let same = ap (λ (x : List ℕ). length x) e in let long = h.0 in absurd (omega (arith, same, long, within))
 
 pub makes_value : (s : Setting) (functions seed : ℕ) (bytes : List ℕ) → bytes ≡ source_of functions seed → length bytes ≤ source_limit → Gives s (makes functions seed) (Ok bytes)
-makes_value s functions seed bytes e within = value_gives s (makes functions seed) bytes (e, within) (λ told other h. only_made functions seed bytes e within other h)
+makes_value s functions seed bytes e within = value_gives s (makes functions seed) bytes (e, within) (λ other h. only_made functions seed bytes e within other h)
 
 only_long : (functions seed : ℕ) → source_limit < length (source_of functions seed) → (other : Came (List ℕ)) → makes_one functions seed other → other ≡ Err (refused 10 (of_file large_name (codes "too long")))
 only_long functions seed long (Ok b) h = let same = ap (λ (x : List ℕ). length x) h.0 in let within = h.1 in absurd (omega (arith, same, long, within))
@@ -36,7 +36,7 @@ only_long functions seed long (Err a) h = ap (λ (b : Answer). Err b) h.1
 
 pub makes_long : (s : Setting) (functions seed : ℕ) (a : Answer) → source_limit < length (source_of functions seed) → IsRefusal 10 (of_file large_name (codes "too long")) a → Gives s (makes functions seed) (Err a)
 makes_long s functions seed a long refusal =
-    refusal_gives s (makes functions seed) 10 (of_file large_name (codes "too long")) a refusal (long, refl) (λ told other h. only_long functions seed long other h)
+    refusal_gives s (makes functions seed) 10 (of_file large_name (codes "too long")) a refusal (long, refl) (λ other h. only_long functions seed long other h)
 
 -- ---- the run
 
@@ -49,12 +49,12 @@ by_line : (s : Setting) (functions conditions : ℕ) (l : Launch) (v : Datum) (o
 by_line s functions conditions l v output wrote a e (inl is) =
     let whole : a ≡ writes (head functions conditions ++ written l.start.has_result output v) = is ∙ ap (λ (w : List ℕ). writes (head functions conditions ++ w)) e in
     last_answers s (finishes_in functions conditions l (Ended v output)) a
-    (value_gives s (finishes_in functions conditions l (Ended v output)) a (ap (λ (b : Answer). Ok b) whole) (λ told other h. h ∙ ap (λ (b : Answer). Ok b) (sym whole)))
+    (value_gives s (finishes_in functions conditions l (Ended v output)) a (ap (λ (b : Answer). Ok b) whole) (λ other h. h ∙ ap (λ (b : Answer). Ok b) (sym whole)))
 by_line s functions conditions l v output wrote a e (inr is) = memory_answers s (finishes_in functions conditions l (Ended v output)) a is
 
 -- of what has no step nothing is said
 stuck_answers : (s : Setting) (functions conditions : ℕ) (l : Launch) (a : Answer) → Answers s (finishes_in functions conditions l step.Stuck) a
-stuck_answers s functions conditions l a = last_answers s (finishes_in functions conditions l step.Stuck) a (value_gives s (finishes_in functions conditions l step.Stuck) a tt (λ told other h. absurd h))
+stuck_answers s functions conditions l a = last_answers s (finishes_in functions conditions l step.Stuck) a (value_gives s (finishes_in functions conditions l step.Stuck) a tt (λ other h. absurd h))
 
 pub done_answers : (s : Setting) (functions conditions : ℕ) (l : Launch) (st : State) (copies nodes : ℕ) (wrote : List ℕ) (a : Answer) → Finished l.start.has_result copies nodes (Some []) (Some wrote) st
     → IsLine functions conditions wrote a → Answers s (finishes_in functions conditions l st) a
@@ -65,7 +65,7 @@ done_answers s functions conditions l step.Stuck copies nodes wrote a h line = s
 by_steps : (s : Setting) (functions conditions : ℕ) (l : Launch) (fr : Frame) (callers : List Caller) (output : List ℕ) (a : Answer) → IsRefusal 8 steps_spent a → Answers s (finishes_in functions conditions l (step.Runs fr callers output)) a
 by_steps s functions conditions l fr callers output a (inl e) =
     last_answers s (finishes_in functions conditions l (step.Runs fr callers output)) a
-    (value_gives s (finishes_in functions conditions l (step.Runs fr callers output)) a (ap (λ (b : Answer). Ok b) e) (λ told other h. h ∙ ap (λ (b : Answer). Ok b) (sym e)))
+    (value_gives s (finishes_in functions conditions l (step.Runs fr callers output)) a (ap (λ (b : Answer). Ok b) e) (λ other h. h ∙ ap (λ (b : Answer). Ok b) (sym e)))
 by_steps s functions conditions l fr callers output a (inr e) = memory_answers s (finishes_in functions conditions l (step.Runs fr callers output)) a e
 
 pub spent_answers : (s : Setting) (functions conditions : ℕ) (l : Launch) (st : State) (before after : Option (List ℕ)) (a : Answer) → Spends before after st → IsRefusal 8 steps_spent a → Answers s (finishes_in functions conditions l st) a

@@ -37,7 +37,7 @@ pub judged_gives : (s : Setting) (name bytes : List ℕ) (p : Program) (budget :
 unfolding by_verdicts
 judged_gives s name bytes p budget a ks so is =
     value_gives s (judges name bytes p budget) a (record { verdicts = ks; known = so; answer = is })
-    (λ told other h. only_judged name bytes p budget ks so other h ∙ ap (λ (b : Answer). Ok b) (sym is))
+    (λ other h. only_judged name bytes p budget ks so other h ∙ ap (λ (b : Answer). Ok b) (sym is))
 
 -- the file and the answer, or want of memory for the file
 pub saved_gives : (s : Setting) (name bytes : List ℕ) (p : Program) (budget : ℕ) (a : Answer) (ks : List Known) (text : List ℕ) (r : Result Proof Answer) → AreVerdicts [] budget p ks → a ≡ proof_answer name bytes p budget ks (are_closed ks)

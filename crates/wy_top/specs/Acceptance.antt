@@ -2,7 +2,7 @@
 use Rattle.std.specs.Prelude.{◌≡◌, ◌&&◌, ℕ, List, [], ◌∷◌, ◌++◌, Bool, true, false, Ok, Err}
 use Rattle.wy_top_probe.specs.wy_top_answers.Answers.{refused, told}
 use Rattle.wy_top_probe.specs.wy_link_load.Alone.{loads_alone}
-use Rattle.wy_top_probe.specs.wy_top_answers.Steps.{Came, Sense, stated, due, Setting, and_then, both, done}
+use Rattle.wy_top_probe.specs.wy_top_answers.Steps.{Came, Sense, stated, due, Setting, and_then, done}
 use Rattle.wy_top_probe.specs.wy_top_answers.declared.answer.Answer.{Answer}
 use Rattle.wy_cert.specs.Steps.{Certificates}
 use Rattle.wy_top.specs.Owed.{told_by}
@@ -56,7 +56,7 @@ accepts name cert bytes p certs budget due (Err a) = IsUnproved name cert bytes 
 
 -- the program, with the certificates that are named
 abbrev pub accepts_with : Setting → List ℕ → List ℕ → ℕ → List ℕ → Program → Sense → Came Acceptance → Type 0
-accepts_with s name cert budget bytes p = and_then (both (certificates s cert (count_of p))) (λ certs. accepts name cert bytes p certs budget)
+accepts_with s name cert budget bytes p = and_then (certificates s cert (count_of p)) (λ certs. accepts name cert bytes p certs budget)
 
 -- the source
 abbrev pub accepts_source : Setting → List ℕ → List ℕ → ℕ → List ℕ → Sense → Came Acceptance → Type 0

@@ -1,9 +1,9 @@
--- Where files are told, what follows from words and files comes, and nothing else.
+-- What follows from words and told files comes, and nothing else.
 use Rattle.std.specs.Prelude.{◌≡◌, ◌⊎◌, ℕ, List, Bool, Ok, Err}
 use Rattle.wy_top.specs.Acceptance.{check_steps}
 use Rattle.wy_top.specs.Proofs.{proves_file}
 use Rattle.wy_top_probe.specs.wy_top_answers.Showing.{ShowsWhole, Sinks}
-use Rattle.wy_top_probe.specs.wy_top_answers.Steps.{Came, IsTold, Sense, Setting, answer_in, due}
+use Rattle.wy_top_probe.specs.wy_top_answers.Steps.{Came, Sense, Setting, answer_in, due}
 use Rattle.wy_top_probe.specs.wy_top_answers.declared.answer.Answer.{Answer}
 use Rattle.wy_top_words.specs.CommandLine.{Asked, check, run, prove, conds, fmt, dis, big, probe}
 use Rattle.wy_top.specs.Large.{big_steps}
@@ -22,7 +22,7 @@ IsElse status = (status ≡ 4) ⊎ ((status ≡ 5) ⊎ ((status ≡ 9) ⊎ (stat
 
 -- an answer that is due is shown whole, or the status is one of these
 abbrev pub AnswersExactly : Setting → (Sense → Came Answer → Type 0) → ℕ → Sinks → Type 0
-AnswersExactly s step status k = IsTold s → (other : Came Answer) → step due other → ShowsWhole (answer_in other) status k ⊎ IsElse status
+AnswersExactly s step status k = (other : Came Answer) → step due other → ShowsWhole (answer_in other) status k ⊎ IsElse status
 
 -- a run that is due starts and shows itself, and a refusal that is due is shown whole
 abbrev pub ShowsDue : ℕ → Bool → ℕ → Sinks → Came Launch → Type 0
@@ -31,7 +31,7 @@ ShowsDue steps stats status k (Err a) = ShowsWhole a status k
 
 abbrev pub RunsExactly : Setting → List ℕ → List ℕ → List ℕ → List ℕ → ℕ → ℕ → Bool → ℕ → Sinks → Type 0
 RunsExactly s source cert name arguments budget steps stats status k =
-    IsTold s → (other : Came Launch) → run_steps s source cert name arguments budget due other → ShowsDue steps stats status k other ⊎ IsElse status
+    (other : Came Launch) → run_steps s source cert name arguments budget due other → ShowsDue steps stats status k other ⊎ IsElse status
 
 -- what was done on these words was due
 abbrev pub IsExact : Asked → Setting → ℕ → Sinks → Type 0

@@ -5,7 +5,7 @@ use Rattle.wy_top_probe.specs.wy_top_answers.Answers.{written}
 use Rattle.wy_top_probe.specs.wy_top_answers.Calls.{called}
 use Rattle.wy_top_probe.specs.wy_top_answers.Loading.{loaded, source_limit}
 use Rattle.wy_top_probe.specs.wy_link_load.Alone.{loads_alone}
-use Rattle.wy_top_probe.specs.wy_top_answers.Steps.{Came, Sense, stated, due, Setting, and_then, both, done}
+use Rattle.wy_top_probe.specs.wy_top_answers.Steps.{Came, Sense, stated, due, Setting, and_then, done}
 use Rattle.wy_top_probe.specs.wy_top_answers.declared.answer.Answer.{Answer}
 use Rattle.wy_top_probe.specs.wy_top_source.texts.Again.{IsAgain}
 use Rattle.wy_top_probe.specs.wy_top_source.texts.Texts.{IsText}
@@ -32,7 +32,7 @@ text kind_of.Conditions name bytes = lists name bytes
 
 -- the source of a layout is the file alone, whatever it imports; that of other texts imports nothing
 abbrev pub source_for : Setting → Text → List ℕ → Sense → Came (List ℕ) → Type 0
-source_for s kind_of.Layout name = both (loaded s name source_limit)
+source_for s kind_of.Layout name = loaded s name source_limit
 source_for s kind_of.Listing name = loads_alone s name
 source_for s kind_of.Conditions name = loads_alone s name
 

@@ -126,8 +126,8 @@ pub fn launch_file<R: Threads + Sync, F: Files>(
     ensures gives { During (F.told files.old) (F.load_faults files.old) (F.load_faults files.new) (F.misses files.old) (F.misses files.new) (λ s. Gives s (spec.run_steps s source.now cert.now name.now arguments.now budget) result) }
     ensures can { IfOk result (λ l. CanRun l.start) }
     ensures kept { (other : List ℕ) → F.told files.new other ≡ F.told files.old other }
-    ensures load_count { F.load_faults files.old ≤ F.load_faults files.new }
-    ensures miss_count { F.misses files.old ≤ F.misses files.new }
+    ensures load_count { (other : List ℕ) → F.load_faults files.old other ≤ F.load_faults files.new other }
+    ensures miss_count { (other : List ℕ) → F.misses files.old other ≤ F.misses files.new other }
     ensures save_count { F.save_faults files.new ≡ F.save_faults files.old }
 {
     match accept_file(rt, alloc, source, cert, budget, workers, files) {

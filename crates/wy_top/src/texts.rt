@@ -55,8 +55,8 @@ fn source_for<F: Files>(
     ensures gives { During (F.told files.old) (F.load_faults files.old) (F.load_faults files.new) (F.misses files.old) (F.misses files.new) (λ s. Gives s (spec.source_for s kind name.now) result) }
     ensures within { IfOk result (λ bytes. length bytes ≤ source_limit) }
     ensures kept { (other : List ℕ) → F.told files.new other ≡ F.told files.old other }
-    ensures load_count { F.load_faults files.old ≤ F.load_faults files.new }
-    ensures miss_count { F.misses files.old ≤ F.misses files.new }
+    ensures load_count { (other : List ℕ) → F.load_faults files.old other ≤ F.load_faults files.new other }
+    ensures miss_count { (other : List ℕ) → F.misses files.old other ≤ F.misses files.new other }
     ensures save_count { F.save_faults files.new ≡ F.save_faults files.old }
 {
     match kind {
@@ -70,8 +70,8 @@ fn source_for<F: Files>(
 fn text_in<F: Files>(alloc: Global, kind: Text, name: &str, files: &mut F) -> Result<Bytes, Answer>
     ensures gives { During (F.told files.old) (F.load_faults files.old) (F.load_faults files.new) (F.misses files.old) (F.misses files.new) (λ s. Gives s (spec.text_in s kind name.now) result) }
     ensures kept { (other : List ℕ) → F.told files.new other ≡ F.told files.old other }
-    ensures load_count { F.load_faults files.old ≤ F.load_faults files.new }
-    ensures miss_count { F.misses files.old ≤ F.misses files.new }
+    ensures load_count { (other : List ℕ) → F.load_faults files.old other ≤ F.load_faults files.new other }
+    ensures miss_count { (other : List ℕ) → F.misses files.old other ≤ F.misses files.new other }
     ensures save_count { F.save_faults files.new ≡ F.save_faults files.old }
 {
     match source_for(alloc, kind, name, files) {
@@ -84,8 +84,8 @@ fn text_in<F: Files>(alloc: Global, kind: Text, name: &str, files: &mut F) -> Re
 pub fn text_answer<F: Files>(alloc: Global, kind: Text, name: &str, files: &mut F) -> Answer
     ensures answers { During (F.told files.old) (F.load_faults files.old) (F.load_faults files.new) (F.misses files.old) (F.misses files.new) (λ s. Answers s (spec.text_steps s kind name.now) result) }
     ensures kept { (other : List ℕ) → F.told files.new other ≡ F.told files.old other }
-    ensures load_count { F.load_faults files.old ≤ F.load_faults files.new }
-    ensures miss_count { F.misses files.old ≤ F.misses files.new }
+    ensures load_count { (other : List ℕ) → F.load_faults files.old other ≤ F.load_faults files.new other }
+    ensures miss_count { (other : List ℕ) → F.misses files.old other ≤ F.misses files.new other }
     ensures save_count { F.save_faults files.new ≡ F.save_faults files.old }
 {
     match text_in(alloc, kind, name, files) {

@@ -7,7 +7,7 @@ use Rattle.wy_top_answers.proofs.StepLemmas.{value_gives, memory_gives, goes, en
 
 -- the last step
 pub done_gives : (s : Setting) (a : Answer) → Gives s (done a) (Ok a)
-done_gives s a = value_gives s (done a) a refl (λ told other h. h)
+done_gives s a = value_gives s (done a) a refl (λ other h. h)
 
 -- a last step that came to this answer
 pub last_answers : (s : Setting) (step : Sense → Came Answer → Type 0) (a : Answer) → Gives s step (Ok a) → Answers s step a

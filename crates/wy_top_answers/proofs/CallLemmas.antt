@@ -2,7 +2,7 @@
 use Rattle.std.proofs.Common.{◌≡◌, ◌⊎◌, ◌∙◌, ℕ, List, Bool, true, false, IsTrue, Ok, Err, inl, inr, refl, sym, ap, subst}
 use Rattle.wy_top_answers.specs.Answers.{refused, no_memory, IsRefusal}
 use Rattle.wy_top_answers.specs.Calls.{Faults, IsFaulted, called, AnswersFault}
-use Rattle.wy_top_answers.specs.Steps.{Setting, IsTold, Came, Sense, stated, due, Gives}
+use Rattle.wy_top_answers.specs.Steps.{Setting, Came, Sense, stated, due, Gives}
 use Rattle.wy_top_answers.specs.declared.answer.Answer.{Answer}
 use Rattle.wy_top_answers.proofs.StepLemmas.{value_gives, memory_gives, refusal_gives}
 
@@ -19,7 +19,7 @@ only_value value faults there x complete exact (Err a) h = absurd (exact h.fault
 
 pub called_value : {X F : Type 0} (s : Setting) (value : Sense → X → Type 0) (faults : Faults F) (there : Sense → F → Type 0) (x : X)
     → value stated x → ((y : X) → value due y → x ≡ y) → ((f : F) → there due f → ⊥) → Gives s (called value faults there) (Ok x)
-called_value s value faults there x is complete exact = value_gives s (called value faults there) x is (λ told other h. only_value value faults there x complete exact other h)
+called_value s value faults there x is complete exact = value_gives s (called value faults there) x is (λ other h. only_value value faults there x complete exact other h)
 
 -- ---- a fault
 
@@ -36,7 +36,7 @@ by_memory : {X F : Type 0} (s : Setting) (value : Sense → X → Type 0) (fault
 by_memory s value faults there f a is complete exact true lacks answers = memory_gives s (called value faults there) a answers
 by_memory s value faults there f a is complete exact false known answers =
     refusal_gives s (called value faults there) (faults.status f) (faults.lines f) a answers (record { fault = f; cause = is known; known = known; answer = refl })
-    (λ told other h. only_fault value faults there f known complete exact other h)
+    (λ other h. only_fault value faults there f known complete exact other h)
 
 pub called_fault : {X F : Type 0} (s : Setting) (value : Sense → X → Type 0) (faults : Faults F) (there : Sense → F → Type 0) (f : F) (a : Answer)
     → (faults.lacks_memory f ≡ false → there stated f) → ((y : X) → value due y → IsTrue (faults.lacks_memory f)) → ((g : F) → there due g → faults.lacks_memory f ≡ false → f ≡ g)

@@ -1,32 +1,32 @@
 -- Steps that give what is due and nothing else, alone and one behind the other.
 use Rattle.std.proofs.Common.{◌≡◌, ◌⊎◌, ◌∙◌, ℕ, List, Ok, Err, inl, inr, refl, sym, ap, subst}
 use Rattle.wy_top_answers.specs.Answers.{refused, no_memory, IsRefusal}
-use Rattle.wy_top_answers.specs.Steps.{Setting, IsTold, Came, Sense, stated, due, goes_on, ends, and_then, IsOutside, memory, from_outside, EndsOutside, IsFree, EndsFree, Gives}
+use Rattle.wy_top_answers.specs.Steps.{Setting, Came, Sense, stated, due, goes_on, ends, and_then, IsOutside, memory, from_outside, EndsOutside, IsFree, EndsFree, Gives}
 use Rattle.wy_top_answers.specs.declared.answer.Answer.{Answer}
 
 -- ---- one step
 
 -- a value that is due, where nothing else is
-pub value_gives : {X : Type 0} (s : Setting) (step : Sense → Came X → Type 0) (x : X) → step stated (Ok x) → (IsTold s → (other : Came X) → step due other → other ≡ Ok x) → Gives s step (Ok x)
-value_gives s step x is only = record { comes = inl is; only = λ told other h. inl (only told other h) }
+pub value_gives : {X : Type 0} (s : Setting) (step : Sense → Came X → Type 0) (x : X) → step stated (Ok x) → ((other : Came X) → step due other → other ≡ Ok x) → Gives s step (Ok x)
+value_gives s step x is only = record { comes = inl is; only = λ other h. inl (only other h) }
 
 -- an answer from outside
 pub outside_gives : {X : Type 0} (s : Setting) (step : Sense → Came X → Type 0) (a : Answer) → IsOutside s a → Gives s step (Err a)
-outside_gives s step a free = record { comes = inr free; only = λ told other h. inr (from_outside free) }
+outside_gives s step a free = record { comes = inr free; only = λ other h. inr (from_outside free) }
 
 -- a free answer that is stated
 pub free_gives : {X : Type 0} (s : Setting) (step : Sense → Came X → Type 0) (a : Answer) → step stated (Err a) → IsFree s a → Gives s step (Err a)
-free_gives s step a is free = record { comes = inl is; only = λ told other h. inr free }
+free_gives s step a is free = record { comes = inl is; only = λ other h. inr free }
 
 pub memory_gives : {X : Type 0} (s : Setting) (step : Sense → Came X → Type 0) (a : Answer) → a ≡ no_memory → Gives s step (Err a)
 memory_gives s step a e = outside_gives s step a (memory e)
 
 -- a refusal that is due, where nothing else is
 pub refusal_gives : {X : Type 0} (s : Setting) (step : Sense → Came X → Type 0) (status : ℕ) (text : List ℕ) (a : Answer) → IsRefusal status text a → step stated (Err (refused status text))
-    → (IsTold s → (other : Came X) → step due other → other ≡ Err (refused status text)) → Gives s step (Err a)
+    → ((other : Came X) → step due other → other ≡ Err (refused status text)) → Gives s step (Err a)
 refusal_gives s step status text a (inl e) is only = record {
   comes = inl (subst (λ (b : Answer). step stated (Err b)) (sym e) is);
-  only = λ told other h. inl (only told other h ∙ ap (λ (b : Answer). Err b) (sym e));
+  only = λ other h. inl (only other h ∙ ap (λ (b : Answer). Err b) (sym e));
 }
 refusal_gives s step status text a (inr e) is only = memory_gives s step a e
 
@@ -66,17 +66,17 @@ goes {X = X} {Y = Y} s first next x r f n = record { comes = by_steps f.comes n.
     by_steps (inl p) (inr free) = inr free
     by_steps (inr never) q = absurd never
 
-    by_value : IsTold s → (other : Came Y) (y : X) → next y due other → (went y ≡ went x) ⊎ EndsFree s (went x) → (other ≡ r) ⊎ EndsFree s r
-    by_value told other y q (inl e) = n.only told other (subst (λ (z : X). next z due other) (one_value x y e) q)
-    by_value told other y q (inr never) = absurd never
+    by_value : (other : Came Y) (y : X) → next y due other → (went y ≡ went x) ⊎ EndsFree s (went x) → (other ≡ r) ⊎ EndsFree s r
+    by_value other y q (inl e) = n.only other (subst (λ (z : X). next z due other) (one_value x y e) q)
+    by_value other y q (inr never) = absurd never
 
     by_answer : (other : Came Y) (a : Answer) → (stopped X a ≡ went x) ⊎ EndsFree s (went x) → (other ≡ r) ⊎ EndsFree s r
     by_answer other a (inl e) = absurd (never_both x a (sym e))
     by_answer other a (inr never) = absurd never
 
-    by_other : IsTold s → (other : Came Y) → and_then first next due other → (other ≡ r) ⊎ EndsFree s r
-    by_other told other (goes_on y p q) = by_value told other y q (f.only told (Ok y) p)
-    by_other told other (ends a p e) = by_answer other a (f.only told (Err a) p)
+    by_other : (other : Came Y) → and_then first next due other → (other ≡ r) ⊎ EndsFree s r
+    by_other other (goes_on y p q) = by_value other y q (f.only (Ok y) p)
+    by_other other (ends a p e) = by_answer other a (f.only (Err a) p)
 
 -- a step that came to an answer
 pub ends_there : {X Y : Type 0} (s : Setting) (first : Sense → Came X → Type 0) (next : X → Sense → Came Y → Type 0) (a : Answer) → Gives s first (Err a) → Gives s (and_then first next) (Err a)
@@ -94,9 +94,9 @@ ends_there {X = X} {Y = Y} s first next a f = record { comes = by_step f.comes; 
     by_answer other b d (inl e) = inl (d ∙ ap (λ (c : Answer). Err c) (one_answer X a b e))
     by_answer other b d (inr free) = inr free
 
-    by_other : IsTold s → (other : Came Y) → and_then first next due other → (other ≡ Err a) ⊎ IsFree s a
-    by_other told other (goes_on y p q) = by_value other y (f.only told (Ok y) p)
-    by_other told other (ends b p e) = by_answer other b e (f.only told (Err b) p)
+    by_other : (other : Came Y) → and_then first next due other → (other ≡ Err a) ⊎ IsFree s a
+    by_other other (goes_on y p q) = by_value other y (f.only (Ok y) p)
+    by_other other (ends b p e) = by_answer other b e (f.only (Err b) p)
 
 -- what is stated of a value that a step came to
 pub stated_value : {X : Type 0} (s : Setting) (step : Sense → Came X → Type 0) (x : X) → Gives s step (Ok x) → step stated (Ok x)

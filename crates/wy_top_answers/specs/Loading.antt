@@ -4,7 +4,7 @@ use Rattle.wy_port.specs.Told.{MayBe, IsMissing, IsTooLong}
 use Rattle.wy_port.specs.declared.files.LoadFault.{LoadFault}
 use Rattle.wy_port.specs.declared.files.LoadFault.TheVariants.{Absent, TooLong, Failed, NoMemory}
 use Rattle.wy_top_answers.specs.Answers.{refused}
-use Rattle.wy_top_answers.specs.Steps.{Came, Setting}
+use Rattle.wy_top_answers.specs.Steps.{Came, IsTold, Sense, stated, due, Setting}
 use Rattle.wy_top_answers.specs.Texts.{load_status, load_text}
 use Rattle.wy_top_answers.specs.declared.answer.Answer.{Answer}
 
@@ -21,10 +21,10 @@ pub record Loads (s : Setting) (name : List ℕ) (limit : ℕ) (bytes : List ℕ
   pub told : MayBe (s.told name) bytes
   pub within : length bytes ≤ limit
 
--- the file is absent or too long; where it isn't told, the count of misses rose. A failure of the outside and want of memory follow from no file
+-- the file is absent or too long; where it isn't told, its count of misses rose. A failure of the outside and want of memory follow from no file
 abbrev pub LoadFails : Setting → List ℕ → ℕ → LoadFault → Type 0
-LoadFails s name limit Absent = IsMissing (s.told name) s.misses_before s.misses_after
-LoadFails s name limit TooLong = IsTooLong (s.told name) limit s.misses_before s.misses_after
+LoadFails s name limit Absent = IsMissing (s.told name) (s.misses_before name) (s.misses_after name)
+LoadFails s name limit TooLong = IsTooLong (s.told name) limit (s.misses_before name) (s.misses_after name)
 LoadFails s name limit Failed = ⊥
 LoadFails s name limit NoMemory = ⊥
 
@@ -34,7 +34,12 @@ pub record IsNotLoaded (s : Setting) (name : List ℕ) (limit : ℕ) (a : Answer
   pub cause : LoadFails s name limit fault
   pub answer : a ≡ refused (load_status fault) (load_text name fault)
 
--- a load of this file comes to its bytes, or to why it isn't loaded
-abbrev pub loaded : Setting → List ℕ → ℕ → Came (List ℕ) → Type 0
-loaded s name limit (Ok bytes) = Loads s name limit bytes
-loaded s name limit (Err a) = IsNotLoaded s name limit a
+-- a load of this file came to its bytes, or to why it isn't loaded
+abbrev pub came_to : Setting → List ℕ → ℕ → Came (List ℕ) → Type 0
+came_to s name limit (Ok bytes) = Loads s name limit bytes
+came_to s name limit (Err a) = IsNotLoaded s name limit a
+
+-- a load of this file; what it comes to is due where the file is told
+abbrev pub loaded : Setting → List ℕ → ℕ → Sense → Came (List ℕ) → Type 0
+loaded s name limit stated r = came_to s name limit r
+loaded s name limit due r = IsTold s name × came_to s name limit r

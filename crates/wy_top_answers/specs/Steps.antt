@@ -9,34 +9,38 @@ use Rattle.wy_top_answers.specs.declared.answer.Answer.{Answer}
 
 -- ---- the outside
 
--- what is told of files, and the counts of load faults and of misses before a call and after it
+-- what is told of files, and for each name the counts of its load faults and of its misses before a call and after it
 pub record Setting : Type 0 where
   pub told : List ℕ → Told
-  pub faults_before : ℕ
-  pub faults_after : ℕ
-  pub misses_before : ℕ
-  pub misses_after : ℕ
+  pub faults_before : List ℕ → ℕ
+  pub faults_after : List ℕ → ℕ
+  pub misses_before : List ℕ → ℕ
+  pub misses_after : List ℕ → ℕ
 
 -- the files as told, and the counts
-abbrev pub setting : (List ℕ → Told) → ℕ → ℕ → ℕ → ℕ → Setting
+abbrev pub setting : (List ℕ → Told) → (List ℕ → ℕ) → (List ℕ → ℕ) → (List ℕ → ℕ) → (List ℕ → ℕ) → Setting
 setting told faults_before faults_after misses_before misses_after = record { told = told; faults_before = faults_before; faults_after = faults_after; misses_before = misses_before; misses_after = misses_after }
 
--- each file is told
-abbrev pub IsTold : Setting → Type 0
-IsTold s = (name : List ℕ) → s.told name ≢ Unknown
+-- the file of this name is told
+abbrev pub IsTold : Setting → List ℕ → Type 0
+IsTold s name = s.told name ≢ Unknown
+
+-- no count falls
+abbrev pub Rises : (List ℕ → ℕ) → (List ℕ → ℕ) → Type 0
+Rises before after = (name : List ℕ) → before name ≤ after name
 
 -- what was done with the files was done in the time of the setting: what is told of them is the same, and the counts lie between
-pub record IsDuring (s : Setting) (told : List ℕ → Told) (faults_before faults_after misses_before misses_after : ℕ) : Type 0 where
+pub record IsDuring (s : Setting) (told : List ℕ → Told) (faults_before faults_after misses_before misses_after : List ℕ → ℕ) : Type 0 where
   pub same : (name : List ℕ) → told name ≡ s.told name
-  pub faults_from : s.faults_before ≤ faults_before
-  pub faults_rise : faults_before ≤ faults_after
-  pub faults_to : faults_after ≤ s.faults_after
-  pub misses_from : s.misses_before ≤ misses_before
-  pub misses_rise : misses_before ≤ misses_after
-  pub misses_to : misses_after ≤ s.misses_after
+  pub faults_from : Rises s.faults_before faults_before
+  pub faults_rise : Rises faults_before faults_after
+  pub faults_to : Rises faults_after s.faults_after
+  pub misses_from : Rises s.misses_before misses_before
+  pub misses_rise : Rises misses_before misses_after
+  pub misses_to : Rises misses_after s.misses_after
 
 -- this holds in each setting in the time of which it was done
-abbrev pub During : (List ℕ → Told) → ℕ → ℕ → ℕ → ℕ → (Setting → Type 0) → Type 0
+abbrev pub During : (List ℕ → Told) → (List ℕ → ℕ) → (List ℕ → ℕ) → (List ℕ → ℕ) → (List ℕ → ℕ) → (Setting → Type 0) → Type 0
 During told faults_before faults_after misses_before misses_after P = (s : Setting) → IsDuring s told faults_before faults_after misses_before misses_after → P s
 
 -- ---- steps
@@ -54,7 +58,7 @@ came view (Err a) = Err a
 pub data Sense : Type 0 where
   -- what holds of the files and the words where the step came to this
   stated : Sense
-  -- what of files and words is enough for this, and nothing else, to come
+  -- what of told files and words is enough for this, and nothing else, to come
   due : Sense
 
 -- both are the same
@@ -70,10 +74,10 @@ pub data Follows {X Y : Type 0} (first : Came X → Type 0) (next : X → Came Y
 abbrev pub and_then : {X Y : Type 0} → (Sense → Came X → Type 0) → (X → Sense → Came Y → Type 0) → Sense → Came Y → Type 0
 and_then first next m = Follows (first m) (λ x. next x m)
 
--- an answer that comes from outside: memory ran out; or a load failed, and was counted
+-- an answer that comes from outside: memory ran out; or the load of the file that it names failed, and was counted
 pub data IsOutside (s : Setting) (a : Answer) : Type 0 where
   memory : a ≡ no_memory → IsOutside s a
-  failed : (name : List ℕ) → a ≡ refused 4 (load_failed name) → Rose s.faults_before s.faults_after → IsOutside s a
+  failed : (name : List ℕ) → a ≡ refused 4 (load_failed name) → Rose (s.faults_before name) (s.faults_after name) → IsOutside s a
 
 abbrev pub EndsOutside : {X : Type 0} → Setting → Came X → Type 0
 EndsOutside s (Ok x) = ⊥
@@ -88,10 +92,10 @@ abbrev pub EndsFree : {X : Type 0} → Setting → Came X → Type 0
 EndsFree s (Ok x) = ⊥
 EndsFree s (Err a) = IsFree s a
 
--- What is stated of what the step came to holds, or it came to an answer from outside. Where files are told, what is due is this and nothing else, unless this is a free answer.
+-- What is stated of what the step came to holds, or it came to an answer from outside. What is due is this and nothing else, unless this is a free answer.
 pub record Gives {X : Type 0} (s : Setting) (step : Sense → Came X → Type 0) (r : Came X) : Type 0 where
   pub comes : step stated r ⊎ EndsOutside s r
-  pub only : IsTold s → (other : Came X) → step due other → (other ≡ r) ⊎ EndsFree s r
+  pub only : (other : Came X) → step due other → (other ≡ r) ⊎ EndsFree s r
 
 -- ---- the end of a command that streams nothing
 

@@ -3,7 +3,7 @@ ghost use Rattle.std.specs.Prelude.{◌≡◌, ◌≤◌, ℕ, List, length, IfO
 ghost use Rattle.std.specs.String.{string_bytes};
 ghost use Rattle.wy_top_answers.specs.Answers.{IsRefusal};
 ghost use Rattle.wy_top_answers.specs.Loading.{loaded};
-ghost use Rattle.wy_top_answers.specs.Steps.{During, Gives, both};
+ghost use Rattle.wy_top_answers.specs.Steps.{During, Gives};
 ghost use Rattle.wy_top_answers.specs.Texts as texts;
 
 use crate::answer::{Answer, refusal};
@@ -47,11 +47,11 @@ fn not_loaded(alloc: Global, name: &str, fault: LoadFault) -> Answer
 
 /// The bytes of the file with this name, of which there are at most `limit`, or the answer of why they are not loaded.
 pub fn load<F: Files>(alloc: Global, name: &str, limit: u64, files: &mut F) -> Result<Bytes, Answer>
-    ensures gives { During (F.told files.old) (F.load_faults files.old) (F.load_faults files.new) (F.misses files.old) (F.misses files.new) (λ s. Gives s (both (loaded s name.now limit)) result) }
+    ensures gives { During (F.told files.old) (F.load_faults files.old) (F.load_faults files.new) (F.misses files.old) (F.misses files.new) (λ s. Gives s (loaded s name.now limit) result) }
     ensures within { IfOk result (λ bytes. length bytes ≤ limit) }
     ensures kept { (other : List ℕ) → F.told files.new other ≡ F.told files.old other }
-    ensures load_count { F.load_faults files.old ≤ F.load_faults files.new }
-    ensures miss_count { F.misses files.old ≤ F.misses files.new }
+    ensures load_count { (other : List ℕ) → F.load_faults files.old other ≤ F.load_faults files.new other }
+    ensures miss_count { (other : List ℕ) → F.misses files.old other ≤ F.misses files.new other }
     ensures save_count { F.save_faults files.new ≡ F.save_faults files.old }
 {
     match files.load(alloc, name, limit) {

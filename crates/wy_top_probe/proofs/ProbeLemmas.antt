@@ -41,5 +41,5 @@ module _ (s : Setting) (bytes : List ℕ) (core : Core ℕ) (tuples ticks entry 
   found_answers f a finds (inl e) =
       let is : IsProbed bytes core tuples ticks entry (Ok a) = record { finding = f; finds = finds; answer = ap (λ (b : Answer). Ok b) e } in
       last_answers s (probes bytes core tuples ticks entry) a (value_gives s (probes bytes core tuples ticks entry) a is
-      (λ told other h. h.answer ∙ (ap (λ (g : Finding). Ok (found_answer bytes g)) (one_answer h.finding f h.finds finds) ∙ sym (ap (λ (b : Answer). Ok b) e))))
+      (λ other h. h.answer ∙ (ap (λ (g : Finding). Ok (found_answer bytes g)) (one_answer h.finding f h.finds finds) ∙ sym (ap (λ (b : Answer). Ok b) e))))
   found_answers f a finds (inr e) = memory_answers s (probes bytes core tuples ticks entry) a e

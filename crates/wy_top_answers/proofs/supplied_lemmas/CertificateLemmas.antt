@@ -8,7 +8,7 @@ use Rattle.wy_cert.specs.File.{ReadsFile}
 use Rattle.wy_top_answers.specs.Answers.{refused, IsRefusal}
 use Rattle.wy_top_answers.specs.supplied.Certificates.{IsBadFile, certificates, certificates_read, fault_text, no_file, without, from_file}
 use Rattle.wy_top_answers.specs.Loading.{loaded, certificate_limit}
-use Rattle.wy_top_answers.specs.Steps.{Setting, IsTold, Came, EndsFree, EndsOutside, Follows, Gives, both, and_then}
+use Rattle.wy_top_answers.specs.Steps.{Setting, Came, Sense, stated, due, EndsFree, EndsOutside, Follows, Gives, both, and_then}
 use Rattle.wy_top_answers.specs.declared.answer.Answer.{Answer}
 use Rattle.wy_top_answers.proofs.StepLemmas.{value_gives, memory_gives, refusal_gives}
 
@@ -47,7 +47,7 @@ only_certificates name count bytes c one (Ok d) h = ap (λ (x : Certificates). O
 only_certificates name count bytes c one (Err a) h = absurd (never_both c h.fault (sym (one.only (Err h.fault) h.read.holds)))
 
 pub read_gives : (s : Setting) (name : List ℕ) (count : ℕ) (bytes : List ℕ) (c : Certificates) → IsTheOne (ReadsFile count bytes) (Ok c) → Gives s (both (certificates_read name count bytes)) (Ok c)
-read_gives s name count bytes c one = value_gives s (both (certificates_read name count bytes)) c one (λ told other h. only_certificates name count bytes c one other h)
+read_gives s name count bytes c one = value_gives s (both (certificates_read name count bytes)) c one (λ other h. only_certificates name count bytes c one other h)
 
 -- ---- a fault
 
@@ -58,7 +58,7 @@ only_fault name count bytes fault one (Err a) h =
 
 fault_gives : (s : Setting) (name : List ℕ) (count : ℕ) (bytes : List ℕ) (fault : CertFault) (a : Answer) → IsTheOne (ReadsFile count bytes) (Err fault) → IsRefusal 6 (fault_text name fault) a → Gives s (both (certificates_read name count bytes)) (Err a)
 fault_gives s name count bytes fault a one refusal =
-    refusal_gives s (both (certificates_read name count bytes)) 6 (fault_text name fault) a refusal (record { fault = fault; read = one; answer = refl }) (λ told other h. only_fault name count bytes fault one other h)
+    refusal_gives s (both (certificates_read name count bytes)) 6 (fault_text name fault) a refusal (record { fault = fault; read = one; answer = refl }) (λ other h. only_fault name count bytes fault one other h)
 
 pub bad_gives : (s : Setting) (name : List ℕ) (count : ℕ) (bytes : List ℕ) (fault : CertFault) (a : Answer) → (fault ≢ NoMemory → IsTheOne (ReadsFile count bytes) (Err fault)) → IsBadFile name fault a → Gives s (both (certificates_read name count bytes)) (Err a)
 bad_gives s name count bytes (BadHeader at_line) a one bad = fault_gives s name count bytes (BadHeader at_line) a (one (λ e. cc)) bad
@@ -70,23 +70,23 @@ bad_gives s name count bytes NoMemory a one bad = memory_gives s (both (certific
 
 -- ---- no file, or a file
 
-only_none : (s : Setting) (name : List ℕ) (count : ℕ) → name ≡ no_file → (other : Came Certificates) → certificates s name count other → other ≡ Ok []
+only_none : (s : Setting) (name : List ℕ) (count : ℕ) → name ≡ no_file → (other : Came Certificates) → certificates s name count due other → other ≡ Ok []
 only_none s name count e other (without d h) = h
 only_none s name count e other (from_file d h) = absurd (d e)
 
-pub none_gives : (s : Setting) (name : List ℕ) (count : ℕ) → name ≡ no_file → Gives s (both (certificates s name count)) (Ok [])
-none_gives s name count e = value_gives s (both (certificates s name count)) [] (without e refl) (λ told other h. only_none s name count e other h)
+pub none_gives : (s : Setting) (name : List ℕ) (count : ℕ) → name ≡ no_file → Gives s (certificates s name count) (Ok [])
+none_gives s name count e = value_gives s (certificates s name count) [] (without e refl) (λ other h. only_none s name count e other h)
 
-pub file_gives : (s : Setting) (name : List ℕ) (count : ℕ) (r : Came Certificates) → name ≢ no_file → Gives s (and_then (both (loaded s name certificate_limit)) (λ bytes. both (certificates_read name count bytes))) r → Gives s (both (certificates s name count)) r
-file_gives s name count r named g = record { comes = by_step g.comes; only = λ told other h. by_other told other h }
+pub file_gives : (s : Setting) (name : List ℕ) (count : ℕ) (r : Came Certificates) → name ≢ no_file → Gives s (and_then (loaded s name certificate_limit) (λ bytes. both (certificates_read name count bytes))) r → Gives s (certificates s name count) r
+file_gives s name count r named g = record { comes = by_step g.comes; only = λ other h. by_other other h }
   where
-    by_step : Follows (loaded s name certificate_limit) (certificates_read name count) r ⊎ EndsOutside s r → certificates s name count r ⊎ EndsOutside s r
+    by_step : Follows (loaded s name certificate_limit stated) (certificates_read name count) r ⊎ EndsOutside s r → certificates s name count stated r ⊎ EndsOutside s r
     by_step (inl h) = inl (from_file named h)
     by_step (inr free) = inr free
 
-    by_other : IsTold s → (other : Came Certificates) → certificates s name count other → (other ≡ r) ⊎ EndsFree s r
-    by_other told other (without d h) = absurd (named d)
-    by_other told other (from_file d h) = g.only told other h
+    by_other : (other : Came Certificates) → certificates s name count due other → (other ≡ r) ⊎ EndsFree s r
+    by_other other (without d h) = absurd (named d)
+    by_other other (from_file d h) = g.only other h
 
 -- ---- the answer of a fault
 

@@ -7,7 +7,7 @@ use Rattle.wy_cert.specs.Steps.{Certificates}
 use Rattle.wy_cert.specs.File.{ReadsFile}
 use Rattle.wy_top_answers.specs.Answers.{refused, no_memory, IsRefusal}
 use Rattle.wy_top_answers.specs.Loading.{loaded, certificate_limit}
-use Rattle.wy_top_answers.specs.Steps.{Came, Follows, Setting}
+use Rattle.wy_top_answers.specs.Steps.{Came, Follows, IsTold, Sense, Setting}
 use Rattle.wy_top_answers.specs.report.Lines.{certificate_fault}
 use Rattle.wy_top_answers.specs.declared.answer.Answer.{Answer}
 
@@ -36,9 +36,13 @@ certificates_read name count bytes (Ok certs) = IsTheOne (ReadsFile count bytes)
 certificates_read name count bytes (Err a) = AreNone name count bytes a
 
 -- no certificates are given by the word `none`; and else those of the file, which is loaded and read
-pub data certificates (s : Setting) (name : List ℕ) (count : ℕ) (r : Came Certificates) : Type 0 where
-  without : name ≡ no_file → r ≡ Ok [] → certificates s name count r
-  from_file : name ≢ no_file → Follows (loaded s name certificate_limit) (certificates_read name count) r → certificates s name count r
+pub data certificates (s : Setting) (name : List ℕ) (count : ℕ) (m : Sense) (r : Came Certificates) : Type 0 where
+  without : name ≡ no_file → r ≡ Ok [] → certificates s name count m r
+  from_file : name ≢ no_file → Follows (loaded s name certificate_limit m) (certificates_read name count) r → certificates s name count m r
+
+-- the file with the certificates is told, if one is named
+abbrev pub IsFileTold : Setting → List ℕ → Type 0
+IsFileTold s name = name ≢ no_file → IsTold s name
 
 -- the answer of a fault of the file, or want of memory
 abbrev pub IsBadFile : List ℕ → CertFault → Answer → Type 0

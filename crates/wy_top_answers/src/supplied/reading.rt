@@ -61,12 +61,12 @@ pub fn certificates<F: Files>(
     count: u32,
     files: &mut F,
 ) -> Result<Certs, Answer>
-    ensures gives { During (F.told files.old) (F.load_faults files.old) (F.load_faults files.new) (F.misses files.old) (F.misses files.new) (λ s. Gives s (both (spec.certificates s name.now count)) (came certificates_of result)) }
+    ensures gives { During (F.told files.old) (F.load_faults files.old) (F.load_faults files.new) (F.misses files.old) (F.misses files.new) (λ s. Gives s (spec.certificates s name.now count) (came certificates_of result)) }
     ensures names { IfOk result NameTheirTerms }
     ensures sorted { IfOk result (λ c. AreSortedCertificates (certificates_of c)) }
     ensures kept { (other : List ℕ) → F.told files.new other ≡ F.told files.old other }
-    ensures load_count { F.load_faults files.old ≤ F.load_faults files.new }
-    ensures miss_count { F.misses files.old ≤ F.misses files.new }
+    ensures load_count { (other : List ℕ) → F.load_faults files.old other ≤ F.load_faults files.new other }
+    ensures miss_count { (other : List ℕ) → F.misses files.old other ≤ F.misses files.new other }
     ensures save_count { F.save_faults files.new ≡ F.save_faults files.old }
 {
     if name == "none" {
