@@ -4,6 +4,7 @@ ghost use Rattle.wy_vc.specs.Told.{IsCond};
 
 use crate::judged::judged;
 use crate::passes::{Passes, Refused, typed_program};
+use crate::trying::put_tried;
 use std::alloc::Global;
 use wy_explain::{
     Cond, Conds, Finding, NoMemory, OpenCase, Owed, Page, Program, Seen, Source, Style, finding_of,
@@ -29,6 +30,13 @@ pub struct Asked {
 pub struct Explained {
     pub status: u8,
     pub text: Vec<u8>,
+}
+
+// What is looked at to tell of conditions.
+struct Telling<'a, 'b> {
+    owed: Owed<'a, 'b>,
+    typed: &'a Typed,
+    asked: Asked,
 }
 
 /// How many open conditions are told whole, and how many more by a line.
@@ -151,12 +159,12 @@ fn explain_conditions(
         terms: &terms,
         conds: list.as_slice(),
     };
+    let telling = Telling { owed, typed, asked };
     let mut page = Page::new(alloc);
-    let is_one = asked.condition > 0;
-    if is_one && asked.condition > list.len() as u64 && asked.style != Style::Json {
+    if asked.condition > list.len() as u64 && asked.style != Style::Json {
         page.text("There is no such condition. ")?;
     }
-    put_verdicts(alloc, &mut page, &owed, verdicts, asked)?;
+    put_verdicts(alloc, &mut page, &telling, verdicts)?;
     if asked.style != Style::Json {
         put_sum(&mut page, list.len() as u64, open, spent)?;
     }
@@ -187,62 +195,76 @@ fn put_sum(page: &mut Page, count: u64, open: u64, spent: u64) -> Result<(), NoM
 fn put_verdicts(
     alloc: Global,
     page: &mut Page,
-    owed: &Owed,
+    telling: &Telling,
     verdicts: Vec<Verdict>,
-    asked: Asked,
 ) -> Result<(), NoMemory> {
     let mut number = 0usize;
     let mut told = 0usize;
     for verdict in verdicts {
-        let is_meant = asked.condition == 0 || asked.condition == (number as u64).saturating_add(1);
-        let is_found = matches!(verdict, Verdict::Found(_));
-        let cond = owed.conds.get(number);
+        match telling.owed.conds.get(number) {
+            Some(cond) => {
+                if is_meant(telling.asked, number, &verdict) {
+                    put_verdict(alloc, page, telling, number, cond, verdict, told)?;
+                    told = told.saturating_add(1);
+                }
+            }
+            None => {}
+        }
         number = number.saturating_add(1);
-        let cond = match cond {
-            Some(cond) => cond,
-            None => continue,
-        };
-        if !is_meant || (is_found && asked.condition == 0) {
-            continue;
-        }
-        if asked.condition > 0 || told < WHOLE || asked.style == Style::Json {
-            put_whole(
-                alloc,
-                page,
-                owed,
-                number.saturating_sub(1),
-                cond,
-                verdict,
-                asked,
-            )?;
-        } else if told < WHOLE + BRIEF {
-            put_brief(
-                alloc,
-                page,
-                owed,
-                number.saturating_sub(1),
-                cond,
-                told == WHOLE,
-            )?;
-        } else if told == WHOLE + BRIEF {
-            page.text("  and more\n")?;
-        }
-        told = told.saturating_add(1);
     }
     Ok(())
 }
 
-fn put_whole(
+fn is_meant(asked: Asked, number: usize, verdict: &Verdict) -> bool {
+    if asked.condition == 0 {
+        return !is_found(verdict);
+    }
+    asked.condition == (number as u64).saturating_add(1)
+}
+
+fn is_found(verdict: &Verdict) -> bool {
+    matches!(verdict, Verdict::Found(_))
+}
+
+// A condition, where so many are told before it.
+fn put_verdict(
     alloc: Global,
     page: &mut Page,
+    telling: &Telling,
+    number: usize,
+    cond: &Cond,
+    verdict: Verdict,
+    told: usize,
+) -> Result<(), NoMemory> {
+    let owed = &telling.owed;
+    if told < WHOLE || telling.asked.style == Style::Json {
+        let is_tried = told == 0 && !is_found(&verdict);
+        let mut finding = whole_finding(alloc, owed, number, cond, verdict, telling.asked)?;
+        if is_tried {
+            put_tried(alloc, owed.seen, telling.typed, cond.at, &mut finding)?;
+        }
+        return put_styled(page, &owed.seen.source, &finding, telling.asked.style);
+    }
+    if told < WHOLE + BRIEF {
+        return put_brief(alloc, page, owed, number, cond, told == WHOLE);
+    }
+    page.text(if told == WHOLE + BRIEF {
+        "  and more\n"
+    } else {
+        ""
+    })
+}
+
+fn whole_finding(
+    alloc: Global,
     owed: &Owed,
     number: usize,
     cond: &Cond,
     verdict: Verdict,
     asked: Asked,
-) -> Result<(), NoMemory> {
-    let finding = match verdict {
-        Verdict::Found(_) => shown_finding(alloc, owed, number, cond)?,
+) -> Result<Finding, NoMemory> {
+    match verdict {
+        Verdict::Found(_) => shown_finding(alloc, owed, number, cond),
         Verdict::Open(leaf) => open_finding(
             alloc,
             owed,
@@ -250,7 +272,7 @@ fn put_whole(
             cond,
             case_of(leaf),
             asked.style == Style::Whole,
-        )?,
+        ),
         Verdict::Spent => {
             let mut finding = finding_of(alloc, owed, number, cond, "spent")?;
             put_spent(
@@ -261,10 +283,9 @@ fn put_whole(
                 asked.budget,
                 &mut finding,
             )?;
-            finding
+            Ok(finding)
         }
-    };
-    put_styled(page, &owed.seen.source, &finding, asked.style)
+    }
 }
 
 // The open case of a leaf.

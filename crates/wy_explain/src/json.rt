@@ -41,9 +41,9 @@ fn put_object(page: &mut Page, source: &Source, finding: &Finding) -> Result<(),
     put_string(page, finding.ending.as_bytes())?;
     page.text(", \"message\": ")?;
     put_string(page, finding.message.as_slice())?;
-    page.text(", \"clause\": ")?;
-    put_clause(page, source, finding)?;
-    page.text(", \"goal\": ")?;
+    page.text(", \"places\": [")?;
+    put_labels(page, source, finding)?;
+    page.text("], \"goal\": ")?;
     put_string(page, finding.goal.as_slice())?;
     page.text(", \"literals\": ")?;
     put_strings(page, finding.facts.as_slice())?;
@@ -64,23 +64,31 @@ fn put_place(page: &mut Page, source: &Source, at: u32) -> Result<(), NoMemory> 
     page.number(source.column(at))
 }
 
-// The first other place that is told, which is that of the clause where one is owed.
-fn put_clause(page: &mut Page, source: &Source, finding: &Finding) -> Result<(), NoMemory> {
+// Other places that are told, that of the clause that is owed first, each with its sentence.
+fn put_labels(page: &mut Page, source: &Source, finding: &Finding) -> Result<(), NoMemory> {
+    let mut is_first = true;
     for label in finding.labels.as_slice() {
+        page.text(if is_first {
+            "{\"message\": "
+        } else {
+            ", {\"message\": "
+        })?;
+        put_string(page, label.text.as_slice())?;
         match label.span {
-            Some(span) => return put_stretch(page, source, span),
+            Some(span) => put_stretch(page, source, span)?,
             None => {}
         }
+        page.text("}")?;
+        is_first = false;
     }
-    page.text("null")
+    Ok(())
 }
 
 fn put_stretch(page: &mut Page, source: &Source, span: Span) -> Result<(), NoMemory> {
-    page.text("{")?;
+    page.text(", ")?;
     put_place(page, source, span.from)?;
     page.text(", \"text\": ")?;
-    put_string(page, source.cut(span))?;
-    page.text("}")
+    put_string(page, source.cut(span))
 }
 
 fn put_strings(page: &mut Page, texts: &[Page]) -> Result<(), NoMemory> {
