@@ -66,27 +66,33 @@ fn put_end(
         ProbeEnd::Found { args, kind, at, .. } => {
             page.text("The program is wrong: `")?;
             put_call(alloc, &mut page, name, args.as_slice())?;
-            page.text("` fails here (")?;
+            page.text("` fails here")?;
+            if at == finding.at {
+                page.text(".")?;
+                return put_sentence(finding, page);
+            }
+            page.text(" (")?;
             page.text(kind.word())?;
             page.text("):")?;
             let span = owing_span(seen, owing_node(seen, kind, at), at);
             point(finding, page, span)
         }
         ProbeEnd::None { tried, met, .. } => {
-            page.text("No failing arguments of ")?;
+            page.text("No arguments were found on which ")?;
             page.code(name)?;
-            page.text(" among ")?;
+            page.text(" fails: ")?;
             page.number(u64::from(tried))?;
-            page.text(" small ones that were tried, of which ")?;
+            page.text(" tried, ")?;
             page.number(u64::from(met))?;
-            page.text(" meet what is required.")?;
-            finding.labels.push(Label {
-                text: page,
-                span: None,
-            })?;
-            Ok(())
+            page.text(" of them meet what is required.")?;
+            put_sentence(finding, page)
         }
     }
+}
+
+fn put_sentence(finding: &mut Finding, text: Page) -> Result<(), NoMemory> {
+    finding.labels.push(Label { text, span: None })?;
+    Ok(())
 }
 
 // A call as it is written.
