@@ -1,10 +1,11 @@
 """Tries `explain` and `help`: `explanations.py WY_AID WY`.
 
-Each source of examples/refused has its explanation beside it, in a file of the same name that ends in `.txt`. Those of examples/unshown take at
-most 40 lines of at most 100 columns. Sources that are changed at random, by a fixed seed, are explained without a crash, and with the status and
-the place that `check` has. The last line tells how many agreed.
+Each source of examples/refused has its explanation beside it, in a file of the same name that ends in `.txt`, and its objects of JSON tell
+the same place and kind. Those of examples/unshown take at most 40 lines of at most 100 columns. Sources that are changed at random, by
+a fixed seed, are explained without a crash, and with the status and the place that `check` has. The last line tells how many agreed.
 """
 import glob
+import json
 import os
 import random
 import re
@@ -44,6 +45,28 @@ def as_written(programs):
         yield os.path.basename(path), agrees(programs, os.path.basename(path), os.path.dirname(path)) == wanted
 
 
+KEYS = ["file", "line", "column", "end", "kind", "condition", "ending", "message", "places", "goal", "literals", "hidden", "names", "hint"]
+
+
+def as_object(it):
+    """What the first line of an explanation has, by the object that tells the same."""
+    number = f"condition {it['condition']} " if it["condition"] else ""
+    ending = f": {it['ending']}" if it["condition"] else ""
+    return f"{it['file']}:{it['line']}:{it['column']}: {number}{it['kind']}{ending}"
+
+
+def as_json(programs):
+    """Each refused example, as objects for editors."""
+    for path in sorted(glob.glob(f"{HERE}/examples/refused/*.wy")):
+        name, folder = os.path.basename(path), os.path.dirname(path)
+        with open(path[:-3] + ".txt", encoding="utf-8", errors="replace") as file:
+            wanted = file.readline().rstrip("\n")
+        status, out, err = called(programs[0], ["explain", name, "--json"], folder)
+        objects = [json.loads(line) for line in out.splitlines()]
+        fit = all(list(it) == KEYS and it["end"]["line"] >= it["line"] for it in objects)
+        yield name, (status, err) == (1, "") and fit and objects != [] and as_object(objects[0]) == wanted
+
+
 def short(programs):
     """Each example that isn't shown is explained in few lines."""
     for path in sorted(glob.glob(f"{HERE}/examples/unshown/*.wy")):
@@ -75,6 +98,19 @@ def changed(programs):
             yield f"the mutant {number}", agrees(programs, f"{number}.wy", room, "--budget", "200") is not None
 
 
+def large(programs):
+    """The two faults that no small source has, each with its line."""
+    many = "".join(f"property p{k}(int x) where x == {k}\n" for k in range(4097))
+    parts = {"A": range(72), "B": range(72, 146), "C": range(57), "D": range(57, 114)}
+    types = [f"type {name} is " + " | ".join(f"{{int {'ac'[name in 'CD']}{k}}}" for k in those) for name, those in parts.items()]
+    wide = "\n".join(types) + "\ntype W is (A | B) & (C | D)\nmethod m(W x):\n    skip\n"
+    for source, wanted in ((many, "a.wy:4097:1: TooMany\n"), (wide, "a.wy:6:10: TypeWide\n")):
+        with tempfile.TemporaryDirectory(prefix="wy-explanations-") as room:
+            with open(f"{room}/a.wy", "w", encoding="utf-8") as file:
+                file.write(source)
+            yield wanted.strip(), (agrees(programs, "a.wy", room) or "").startswith(wanted)
+
+
 def words(programs):
     """Words that are told, and words that aren't."""
     status, out, err = called(programs[0], ["help"], HERE)
@@ -86,7 +122,7 @@ def words(programs):
 def main():
     programs = [os.path.abspath(it) for it in sys.argv[1:3]]
     passed, failed = 0, 0
-    for table in (as_written, short, changed, words):
+    for table in (as_written, as_json, short, changed, large, words):
         for name, agreed in table(programs):
             passed, failed = passed + agreed, failed + (not agreed)
             if not agreed:
