@@ -16,7 +16,7 @@ use wy_search::{OpenLeaf, Verdict, Why};
 use wy_vc::{VcFault, conditions};
 
 /// What is asked for.
-#[derive(Clone, Copy, Debug)]
+#[derive(Clone, Copy)]
 pub struct Asked {
     /// The number of a condition, from 1; 0 for the whole source.
     pub condition: u64,

@@ -23,7 +23,7 @@ use wy_port::{DiskFiles, StdSink};
 const NO_MEMORY: u8 = 9;
 
 /// Memory ran out.
-#[derive(Clone, Copy, Debug)]
+#[derive(Clone, Copy)]
 struct NoMemory;
 
 fn main(rt: HostRuntime) -> ExitCode {

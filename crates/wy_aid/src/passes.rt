@@ -8,7 +8,7 @@ use wy_names::{NameFault, resolve};
 use wy_parse_front::{SourceFault, is_no_memory, offset, read, word};
 
 /// Why a source has no such program.
-#[derive(Clone, Copy, Debug)]
+#[derive(Clone, Copy)]
 pub enum Refused {
     /// The first fault, in the order of the passes.
     Fault(Fault),

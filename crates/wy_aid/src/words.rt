@@ -2,7 +2,7 @@
 use wy_explain::Style;
 
 /// What the words ask for.
-#[derive(Clone, Copy, Debug, PartialEq, Eq)]
+#[derive(Clone, Copy, PartialEq, Eq)]
 pub enum Words<'a> {
     /// The table of commands.
     Help,

@@ -8,7 +8,7 @@ use std::alloc::Global;
 use wy_explain_source::{Class, NoMemory, Node, Page, Role, Seen, Span};
 
 /// Where a question is asked.
-#[derive(Clone, Copy, Debug, PartialEq, Eq)]
+#[derive(Clone, Copy, PartialEq, Eq)]
 pub enum Spot {
     /// Before this statement.
     Before(usize),

@@ -3,7 +3,7 @@ use std::alloc::Global;
 use wy_explain_source::{NoMemory, Page};
 
 /// The pass that has a fault.
-#[derive(Clone, Copy, Debug, PartialEq, Eq)]
+#[derive(Clone, Copy, PartialEq, Eq)]
 pub enum Pass {
     Text,
     Names,
@@ -12,7 +12,7 @@ pub enum Pass {
 }
 
 /// A fault: its pass, its word and its place.
-#[derive(Clone, Copy, Debug)]
+#[derive(Clone, Copy)]
 pub struct Fault {
     pub pass: Pass,
     pub word: &'static str,

@@ -9,7 +9,7 @@ const MOST: usize = 24;
 
 /// A literal of an open case, and how near it is to the goal: 0 a part of the goal itself, 1 with a part, a length, a product or
 /// the like of it, 2 with a name of it, 3 with something of those, 4 any other.
-#[derive(Clone, Copy, Debug)]
+#[derive(Clone, Copy)]
 pub struct Fact {
     pub atom: u32,
     pub holds: bool,
@@ -91,12 +91,7 @@ fn bring_near(alloc: Global, terms: &Terms, facts: &mut [Fact]) -> Result<(), No
         let mut fact = facts[number];
         if fact.distance > 3 {
             let own = made_of(alloc, terms, fact.atom)?;
-            if share(
-                terms,
-                near.as_slice(),
-                own.as_slice(),
-                |node: &Node| is_name(node),
-            ) {
+            if share(terms, near.as_slice(), own.as_slice(), false) {
                 fact.distance = 3;
                 facts[number] = fact;
             }
@@ -114,16 +109,14 @@ pub fn join(into: &mut [bool], marks: &[bool]) {
     }
 }
 
-// Whether a term of both kinds of marks passes the test.
-fn share<F: Fn(&Node) -> bool>(terms: &Terms, first: &[bool], second: &[bool], is_meant: F) -> bool
-    requires { F.IsAlwaysCallable is_meant }
-{
+// Whether a name, or else more than a name, has marks of both kinds.
+fn share(terms: &Terms, first: &[bool], second: &[bool], is_more: bool) -> bool {
     for number in 0..first.len() {
         let is_both = first[number] && is_marked(second, number);
         if is_both {
             match node_at(terms, number) {
                 Some(node) => {
-                    if is_meant(node) {
+                    if (is_more && is_compound(node)) || (!is_more && is_name(node)) {
                         return true;
                     }
                 }
@@ -146,10 +139,10 @@ fn distance(terms: &Terms, aim: &[bool], own: &[bool], atom: u32) -> u8 {
     if is_marked(aim, atom as usize) {
         return 0;
     }
-    if share(terms, aim, own, |node: &Node| is_compound(node)) {
+    if share(terms, aim, own, true) {
         return 1;
     }
-    if share(terms, aim, own, |node: &Node| is_name(node)) {
+    if share(terms, aim, own, false) {
         return 2;
     }
     4
@@ -157,19 +150,25 @@ fn distance(terms: &Terms, aim: &[bool], own: &[bool], atom: u32) -> u8 {
 
 // Whether something has a name.
 fn has_name(terms: &Terms, marks: &[bool]) -> bool {
-    share(terms, marks, marks, |node: &Node| is_name(node))
+    share(terms, marks, marks, false)
 }
 
 // Whether a fact denies the goal or a part of it.
 fn denies(terms: &Terms, goal: u32, fact: Fact) -> bool {
     match node_of(terms, goal) {
         Some(Node::Not(inner)) => fact.holds && *inner == fact.atom,
-        Some(Node::And(parts) | Node::Or(parts)) => parts
-            .as_slice()
-            .iter()
-            .any(|part| denies_part(terms, *part, fact)),
+        Some(Node::And(parts) | Node::Or(parts)) => denies_one(terms, parts.as_slice(), fact),
         _ => !fact.holds && fact.atom == goal,
     }
+}
+
+fn denies_one(terms: &Terms, parts: &[u32], fact: Fact) -> bool {
+    for part in parts {
+        if denies_part(terms, *part, fact) {
+            return true;
+        }
+    }
+    false
 }
 
 fn denies_part(terms: &Terms, part: u32, fact: Fact) -> bool {
@@ -241,13 +240,20 @@ fn is_implied(terms: &Terms, literal: (u32, bool), literals: &[(u32, bool)]) -> 
     if s == t {
         return true;
     }
-    literals.iter().any(|other| match compared(terms, other.0) {
-        Some(more) => says_more(
-            (s, t, is_equation, literal.1),
-            (more.0, more.1, more.2, other.1),
-        ),
-        None => false,
-    })
+    for other in literals {
+        match compared(terms, other.0) {
+            Some(more) => {
+                if says_more(
+                    (s, t, is_equation, literal.1),
+                    (more.0, more.1, more.2, other.1),
+                ) {
+                    return true;
+                }
+            }
+            None => {}
+        }
+    }
+    false
 }
 
 // Of two comparisons of two terms each: whether the second says more than the first.

@@ -1,4 +1,5 @@
 //! Which clause a condition owes.
+use crate::places::{Wanted, node_there};
 use std::alloc::Global;
 use wy_core::{Core, Decl, Expr, ExprKind, Op, Routine, Stmt, StmtKind};
 use wy_explain_source::{NoMemory, Seen};
@@ -88,8 +89,7 @@ fn called<'a>(core: &'a Core, name: &[u8]) -> Option<&'a Routine> {
 
 // The place of the loop: the condition's own, or that of the loop around a `continue`.
 fn loop_at(seen: &Seen, cond: &Cond) -> u32 {
-    let is_meant = |class: wy_explain_source::Class| class.is_stmt();
-    match seen.nodes.find(cond.at, is_meant) {
+    match node_there(seen, cond.at, Wanted::Stmt) {
         Some(number) => match seen.nodes.get(number) {
             Some(node) => {
                 if node.class.is_loop() {

@@ -6,11 +6,12 @@ use crate::kinds::{clause_words, owing_node, owing_span, put_kind};
 use crate::members::member_type;
 use crate::naming::Naming;
 use crate::parts::{is_equation, made_of, node_at, node_of};
+use crate::places::{Wanted, node_there};
 use crate::term_text::{Words, put_formula};
 use crate::uses::{Uses, place_of};
 use std::alloc::Global;
 use wy_core::Core;
-use wy_explain_source::{Class, Finding, NoMemory, Page, Seen, hint, point_at};
+use wy_explain_source::{Finding, NoMemory, Page, Seen, hint, point_at};
 use wy_term::{Cond, CondKind, Node, Terms};
 
 /// The conditions of a program, and what is looked at to tell of them.
@@ -105,8 +106,7 @@ fn put_clause(
     kind: CondKind,
     at: u32,
 ) -> Result<(), NoMemory> {
-    let is_meant = |class: Class| class.is_expr();
-    let span = match seen.nodes.find(at, is_meant) {
+    let span = match node_there(seen, at, Wanted::Expr) {
         Some(number) => match seen.nodes.get(number) {
             Some(node) => node.span,
             None => return Ok(()),
@@ -180,11 +180,7 @@ pub fn open_finding(
     for fact in facts.as_slice() {
         let mut page = Page::new(alloc);
         put_formula(&mut page, words, fact.atom, fact.holds)?;
-        let is_new = !finding
-            .facts
-            .as_slice()
-            .iter()
-            .any(|other| other.as_slice() == page.as_slice());
+        let is_new = !is_among(finding.facts.as_slice(), page.as_slice());
         if all || (is_new && finding.facts.len() < MOST) {
             finding.facts.push(page)?;
         } else {
@@ -193,6 +189,15 @@ pub fn open_finding(
     }
     finding.names = naming.notes(alloc)?;
     Ok(finding)
+}
+
+fn is_among(texts: &[Page], text: &[u8]) -> bool {
+    for other in texts {
+        if other.as_slice() == text {
+            return true;
+        }
+    }
+    false
 }
 
 /// How many facts are shown unless all are asked for.

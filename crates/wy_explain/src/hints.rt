@@ -1,5 +1,6 @@
 //! How programs are mended whose conditions the search leaves open: the table of docs/WRITING.md.
 use crate::parts::{made_of, made_of_all, node_at, node_of};
+use crate::places::{Wanted, node_there};
 use std::alloc::Global;
 use wy_explain_source::{Class, NoMemory, Role, Seen};
 use wy_term::{Cond, CondKind, Node, Terms};
@@ -22,7 +23,7 @@ pub const HINTS: [&str; 13] = [
 ];
 
 /// What the terms of a case have.
-#[derive(Clone, Copy, Debug)]
+#[derive(Clone, Copy)]
 struct Traits {
     field_update: bool,
     element_update: bool,
@@ -178,8 +179,7 @@ fn clause_class(seen: &Seen, clause: Option<u32>) -> Option<Class> {
 
 fn clause_node(seen: &Seen, clause: Option<u32>) -> Option<usize> {
     let at = clause?;
-    let is_meant = |class: Class| class.is_expr();
-    seen.nodes.find(at, is_meant)
+    node_there(seen, at, Wanted::Expr)
 }
 
 // Whether the clause is `r == F` for a result that is a truth value.

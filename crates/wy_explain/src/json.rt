@@ -2,7 +2,7 @@
 use wy_explain_source::{Finding, NoMemory, Page, Source, Span, put_finding};
 
 /// How findings are written.
-#[derive(Clone, Copy, Debug, PartialEq, Eq)]
+#[derive(Clone, Copy, PartialEq, Eq)]
 pub enum Style {
     /// For people.
     Short,

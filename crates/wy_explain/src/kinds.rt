@@ -1,5 +1,6 @@
 //! The kinds of conditions in words.
-use wy_explain_source::{Class, NoMemory, Node, Page, Role, Seen, Span};
+use crate::places::{Wanted, node_there};
+use wy_explain_source::{NoMemory, Node, Page, Role, Seen, Span};
 use wy_term::{CondKind, Node as Term, Terms};
 
 /// What is said of a condition that isn't shown: which construct owes what.
@@ -98,17 +99,10 @@ pub fn clause_words(kind: CondKind) -> &'static str {
 pub fn owing_node(seen: &Seen, kind: CondKind, at: u32) -> Option<usize> {
     match kind {
         CondKind::Range | CondKind::Divisor | CondKind::Index | CondKind::Length => {
-            let is_meant = |class: Class| class.is_expr();
-            seen.nodes.find(at, is_meant)
+            node_there(seen, at, Wanted::Expr)
         }
-        CondKind::Requires | CondKind::Member => {
-            let is_meant = |class: Class| class.is_stmt() || class == Class::Call;
-            seen.nodes.find(at, is_meant)
-        }
-        _ => {
-            let is_meant = |class: Class| class.is_stmt() || class.is_decl();
-            seen.nodes.find(at, is_meant)
-        }
+        CondKind::Requires | CondKind::Member => { node_there(seen, at, Wanted::Caller) }
+        _ => { node_there(seen, at, Wanted::Owner) }
     }
 }
 

@@ -24,6 +24,7 @@ mod kinds;
 mod members;
 mod naming;
 mod parts;
+mod places;
 mod spent;
 mod term_text;
 mod text_faults;

@@ -1,12 +1,12 @@
 //! Which type a value has to be of.
+use crate::places::{Wanted, node_there};
 use wy_explain_source::{Class, Node, Role, Seen};
 use wy_term::{Cond, CondKind};
 
 /// The type that a member condition asks for, as it is written, with the place of its first clause; nothing where that isn't plain.
 pub fn member_type(seen: &Seen, conds: &[Cond], number: usize) -> Option<(Node, u32)> {
     let cond = conds.get(number)?;
-    let is_meant = |class: Class| class.is_stmt() || class == Class::Call;
-    let stmt = seen.nodes.find(cond.at, is_meant)?;
+    let stmt = node_there(seen, cond.at, Wanted::Caller)?;
     let node = seen.nodes.get(stmt)?;
     match node.class {
         Class::Return => clause_of(seen, seen.result_type(node.decl)?),

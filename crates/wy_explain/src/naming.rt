@@ -45,10 +45,12 @@ impl Naming {
 
     // Whether another name is called so.
     fn is_taken(&self, shown: &[u8]) -> bool {
-        self.list
-            .as_slice()
-            .iter()
-            .any(|called| called.shown.as_slice() == shown)
+        for called in self.list.as_slice() {
+            if called.shown.as_slice() == shown {
+                return true;
+            }
+        }
+        false
     }
 
     /// The number of a quantifier by its word; one that stands for such a number has a prime, and one more for each that is

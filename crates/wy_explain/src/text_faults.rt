@@ -318,7 +318,12 @@ fn is_front(text: &[u8]) -> bool {
         "", "return", "assert", "if", "while", "requires", "ensures", "where", "=", "==>", ",",
         ":", ";", "switch", "in", "..",
     ];
-    words.iter().any(|word| word.as_bytes() == text)
+    for word in words {
+        if word.as_bytes() == text {
+            return true;
+        }
+    }
+    false
 }
 
 fn mixed(alloc: Global, seen: &Seen, finding: &mut Finding) -> Result<(), NoMemory> {

@@ -1,6 +1,7 @@
 //! Faults of types.
 use crate::asking::{Spot, is_taken, type_at};
 use crate::checker::Checker;
+use crate::places::{Wanted, node_there};
 use std::alloc::Global;
 use wy_explain_source::{
     Class, Finding, NoMemory, Node, Page, Role, Seen, Span, hint, point, point_at,
@@ -179,8 +180,7 @@ fn not_subtype<C: Checker>(
     checker: &C,
     finding: &mut Finding,
 ) -> Result<(), NoMemory> {
-    let is_meant = |class: Class| class.is_stmt() || class == Class::Call;
-    let number = match seen.nodes.find(finding.at, is_meant) {
+    let number = match node_there(seen, finding.at, Wanted::Caller) {
         Some(number) => number,
         None => return Ok(()),
     };
@@ -353,10 +353,7 @@ fn mended(
     left: &[u8],
     own: &[u8],
 ) -> Result<(), NoMemory> {
-    let is_variable = match seen
-        .nodes
-        .find(value.from, |class: Class| class == Class::Var)
-    {
+    let is_variable = match node_there(seen, value.from, Wanted::Variable) {
         Some(number) => match seen.nodes.get(number) {
             Some(node) => node.span == value,
             None => false,
@@ -513,10 +510,7 @@ fn fits<C: Checker>(
 
 // What stands before the `[`, the `.` or behind the `|`, and the node of which it is a part.
 fn whole_of(seen: &Seen, at: u32) -> Option<(usize, Span)> {
-    let is_meant = |class: Class| class == Class::Index
-        || class == Class::Field
-        || class == Class::Len;
-    let number = seen.nodes.find(at, is_meant)?;
+    let number = node_there(seen, at, Wanted::Part)?;
     let node = seen.nodes.get(number)?;
     if node.role == Role::Step {
         let stmt = seen.nodes.get(node.parent)?;
@@ -593,6 +587,15 @@ fn no_field<C: Checker>(
     narrowed(alloc, seen, finding, whole, &ty)
 }
 
+fn is_wordly(text: &[u8]) -> bool {
+    for byte in text {
+        if !byte.is_ascii_alphanumeric() && *byte != b'_' {
+            return false;
+        }
+    }
+    true
+}
+
 // A hint on narrowing, where the type is a union.
 fn narrowed(
     alloc: Global,
@@ -608,10 +611,7 @@ fn narrowed(
     if !is_union {
         return Ok(());
     }
-    let is_variable = seen
-        .text(whole)
-        .iter()
-        .all(|byte| byte.is_ascii_alphanumeric() || *byte == b'_');
+    let is_variable = is_wordly(seen.text(whole));
     let mut page = Page::new(alloc);
     if is_variable {
         page.text("test the variable before, as in `if ")?;
@@ -701,16 +701,14 @@ fn not_bool<C: Checker>(
     checker: &C,
     finding: &mut Finding,
 ) -> Result<(), NoMemory> {
-    let is_clause = |class: Class| class.is_expr();
-    let is_stmt = |class: Class| class.is_stmt();
-    let is_told = match seen.nodes.find(finding.at, is_stmt) {
+    let is_told = match node_there(seen, finding.at, Wanted::Stmt) {
         Some(number) => told_parts(alloc, seen, checker, finding, number, "bool")?,
         None => false,
     };
     if is_told {
         return Ok(());
     }
-    match seen.nodes.find(finding.at, is_clause) {
+    match node_there(seen, finding.at, Wanted::Expr) {
         Some(number) => {
             if told_part(alloc, seen, checker, finding, number, "bool")? {
                 return Ok(());
@@ -732,8 +730,7 @@ fn not_int<C: Checker>(
     checker: &C,
     finding: &mut Finding,
 ) -> Result<(), NoMemory> {
-    let is_meant = |class: Class| class.is_expr() || class.is_stmt();
-    match seen.nodes.find(finding.at, is_meant) {
+    match node_there(seen, finding.at, Wanted::Either) {
         Some(number) => {
             let node = seen.nodes.get(number);
             let is_index = match node {

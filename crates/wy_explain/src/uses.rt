@@ -1,7 +1,8 @@
 //! Where the names of conditions are first spoken of.
 use crate::parts::{node_at, node_of, put_parts};
+use crate::places::{Wanted, node_there};
 use std::alloc::Global;
-use wy_explain_source::{Class, NoMemory, Seen};
+use wy_explain_source::{NoMemory, Seen};
 use wy_term::{Cond, CondKind, Node, Terms};
 
 /// For each term the number of the first condition of a declaration that is made of it.
@@ -101,8 +102,7 @@ fn behind(seen: &Seen, cond: &Cond) -> u32 {
     if cond.kind != CondKind::Keep {
         return cond.at;
     }
-    let is_meant = |class: Class| class.is_loop();
-    match seen.nodes.find(cond.at, is_meant) {
+    match node_there(seen, cond.at, Wanted::Loop) {
         Some(number) => seen.end_of(number),
         None => cond.at,
     }
