@@ -33,6 +33,7 @@ pub struct Explained {
 }
 
 // What is looked at to tell of conditions.
+#[derive(Clone, Copy)]
 struct Telling<'a, 'b> {
     owed: Owed<'a, 'b>,
     typed: &'a Typed,

@@ -87,6 +87,7 @@ fn of_paths(fault: AssignFault) -> Refused {
 }
 
 /// The passes, asked.
+#[derive(Clone, Copy)]
 pub struct Passes;
 
 impl Checker for Passes {
