@@ -71,7 +71,7 @@ pub fn explain(
         Err(Refused::NoMemory) => Err(NoMemory),
         Err(Refused::Fault(fault)) => {
             let mut page = Page::new(alloc);
-            put_faults(alloc, &mut page, &seen, &Passes, fault, asked.style)?;
+            put_faults(alloc, &mut page, &seen, &Passes, fault.pass, asked.style)?;
             Ok(Explained {
                 status: 1,
                 text: page.into_vec(),

@@ -9,29 +9,28 @@ use wy_explain_source::{Finding, NoMemory, Page, Role, Seen, Span, name_fault, p
 /// How many faults are told.
 const MOST: usize = 8;
 
-/// Writes what is told of the fault, and of the first faults of the same pass in other functions and methods: those that come where the
-/// bodies with the faults before are left out.
+/// Writes what is told of the first fault, which is one of this pass, and of the first faults of the same pass in other functions
+/// and methods: those that come where the bodies with the faults before are left out.
 pub fn put_faults<C: Checker>(
     alloc: Global,
     page: &mut Page,
     seen: &Seen,
     checker: &C,
-    first: Fault,
+    pass: Pass,
     style: Style,
 ) -> Result<(), NoMemory> {
-    let mut fault = first;
     let mut left: Vec<u8> = Vec::from_slice(alloc, seen.source.bytes)?;
     for _ in 0..MOST {
-        let finding = finding_of(alloc, seen, checker, fault)?;
-        put_styled(page, &seen.source, &finding, style)?;
-        if fault.pass == Pass::Text || !blank(seen, left.as_mut_slice(), fault.at) {
-            break;
-        }
-        fault = match checker.fault(alloc, left.as_slice())? {
-            Some(next) => next,
+        let fault = match checker.fault(alloc, left.as_slice())? {
+            Some(fault) => fault,
             None => break,
         };
-        if fault.pass != first.pass {
+        if fault.pass != pass {
+            break;
+        }
+        let finding = finding_of(alloc, seen, checker, fault)?;
+        put_styled(page, &seen.source, &finding, style)?;
+        if pass == Pass::Text || !blank(seen, left.as_mut_slice(), fault.at) {
             break;
         }
     }

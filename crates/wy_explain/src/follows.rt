@@ -7,52 +7,77 @@ use wy_explain_source::{NoMemory, Page, Seen, Span};
 /// Sources above this size aren't tried.
 const LARGEST: usize = 65_536;
 
-/// A token that is tried, how it is told, and under which word it is told with others of its family.
-const TRIED: [(&str, &str, &str); 44] = [
-    ("x__", "a name", "an expression"),
-    ("7", "a numeral", "an expression"),
-    ("\"\"", "a string", "an expression"),
-    ("all", "`all`", "an expression"),
-    ("null", "`null`", "an expression"),
-    ("true", "`true`", "an expression"),
-    ("(", "`(`", "an expression"),
-    ("[", "`[`", "an expression"),
-    ("{", "`{`", "an expression"),
-    ("!", "`!`", "an expression"),
-    ("-", "`-`", "an expression"),
-    ("|", "`|`", "an expression"),
-    ("int", "a type", "a type"),
-    ("+", "an operator", "an operator"),
-    ("%", "an operator", "an operator"),
-    ("==", "an operator", "an operator"),
-    ("&&", "an operator", "an operator"),
-    ("||", "an operator", "an operator"),
-    ("==>", "an operator", "an operator"),
-    (")", "`)`", ""),
-    ("]", "`]`", ""),
-    ("}", "`}`", ""),
-    (",", "`,`", ""),
-    (":", "`:`", ""),
-    (";", "`;`", ""),
-    (".", "`.`", ""),
-    ("..", "`..`", ""),
-    ("=", "`=`", ""),
-    ("->", "`->`", ""),
-    ("is", "`is`", ""),
-    ("in", "`in`", ""),
-    ("where", "`where`", ""),
-    ("requires", "`requires`", ""),
-    ("ensures", "`ensures`", ""),
-    ("return", "a statement", "a statement"),
-    ("while", "a statement", "a statement"),
-    ("else", "`else`", ""),
-    ("case", "`case`", ""),
-    ("default", "`default`", ""),
-    ("function", "a declaration", "a declaration"),
-    ("type", "a declaration", "a declaration"),
-    ("method", "a declaration", "a declaration"),
-    ("&", "`&`", ""),
-    ("\n", "the end of the line", ""),
+/// Tokens that are told by one word where two of them could stand.
+#[derive(Clone, Copy, PartialEq, Eq)]
+enum Family {
+    /// None: it is told by its own words.
+    Own,
+    Expression,
+    Type,
+    Operator,
+    Statement,
+    Declaration,
+}
+
+impl Family {
+    fn words(self) -> &'static str {
+        match self {
+            Family::Own => "",
+            Family::Expression => "an expression",
+            Family::Type => "a type",
+            Family::Operator => "an operator",
+            Family::Statement => "a statement",
+            Family::Declaration => "a declaration",
+        }
+    }
+}
+
+/// A token that is tried, its own words, and its family.
+const TRIED: [(&str, &str, Family); 44] = [
+    ("x__", "a name", Family::Expression),
+    ("7", "a numeral", Family::Expression),
+    ("\"\"", "a string", Family::Expression),
+    ("all", "`all`", Family::Expression),
+    ("null", "`null`", Family::Expression),
+    ("true", "`true`", Family::Expression),
+    ("(", "`(`", Family::Expression),
+    ("[", "`[`", Family::Expression),
+    ("{", "`{`", Family::Expression),
+    ("!", "`!`", Family::Expression),
+    ("-", "`-`", Family::Expression),
+    ("|", "`|`", Family::Expression),
+    ("int", "a type", Family::Type),
+    ("+", "an operator", Family::Operator),
+    ("%", "an operator", Family::Operator),
+    ("==", "an operator", Family::Operator),
+    ("&&", "an operator", Family::Operator),
+    ("||", "an operator", Family::Operator),
+    ("==>", "an operator", Family::Operator),
+    (")", "`)`", Family::Own),
+    ("]", "`]`", Family::Own),
+    ("}", "`}`", Family::Own),
+    (",", "`,`", Family::Own),
+    (":", "`:`", Family::Own),
+    (";", "`;`", Family::Own),
+    (".", "`.`", Family::Own),
+    ("..", "`..`", Family::Own),
+    ("=", "`=`", Family::Own),
+    ("->", "`->`", Family::Own),
+    ("is", "`is`", Family::Own),
+    ("in", "`in`", Family::Own),
+    ("where", "`where`", Family::Own),
+    ("requires", "`requires`", Family::Own),
+    ("ensures", "`ensures`", Family::Own),
+    ("return", "a statement", Family::Statement),
+    ("while", "a statement", Family::Statement),
+    ("else", "`else`", Family::Own),
+    ("case", "`case`", Family::Own),
+    ("default", "`default`", Family::Own),
+    ("function", "a declaration", Family::Declaration),
+    ("type", "a declaration", Family::Declaration),
+    ("method", "a declaration", Family::Declaration),
+    ("&", "`&`", Family::Own),
+    ("\n", "the end of the line", Family::Own),
 ];
 
 /// Which of the tried tokens could stand at the offset, by asking the reader of programs for each: in their order, an entry each.
@@ -68,9 +93,10 @@ pub fn could_stand<C: Checker>(
         return Ok(choices);
     }
     let is_open = open_bracket(seen, at).is_some();
-    for tried in &TRIED {
-        let is_told = tried.0 != "\n" || !is_open;
-        choices.push(is_told && may_stand(alloc, checker, before, tried.0)?)?;
+    for number in 0..TRIED.len() {
+        let token = TRIED[number].0.as_bytes();
+        let is_told = token != b"\n".as_slice() || !is_open;
+        choices.push(is_told && may_stand(alloc, checker, before, token)?)?;
     }
     Ok(choices)
 }
@@ -80,7 +106,7 @@ fn may_stand<C: Checker>(
     alloc: Global,
     checker: &C,
     before: &[u8],
-    token: &str,
+    token: &[u8],
 ) -> Result<bool, NoMemory> {
     let mut page = Page::new(alloc);
     page.bytes(before)?;
@@ -88,34 +114,40 @@ fn may_stand<C: Checker>(
         Some(byte) => byte.is_ascii_whitespace(),
         None => true,
     };
-    if is_fresh && token == "\n" {
+    let is_line_end = token == b"\n".as_slice();
+    if is_fresh && is_line_end {
         return Ok(false);
     }
-    if !is_fresh && token != "\n" {
+    if !is_fresh && !is_line_end {
         page.text(" ")?;
     }
     let at = page.as_slice().len();
-    page.text(token)?;
-    if page.as_slice().len() >= u32::MAX as usize {
-        return Ok(false);
-    }
+    page.bytes(token)?;
     match checker.unread(alloc, page.as_slice())? {
         Some(fault) => Ok(fault as usize > at),
         None => Ok(true),
     }
 }
 
-/// Writes the tokens that could stand, families by their word where two of them could.
+/// Writes the tokens that could stand, families by their words where two of them could.
 pub fn put_choices(page: &mut Page, choices: &[bool]) -> Result<(), NoMemory> {
     let mut told = 0usize;
     for number in 0..TRIED.len() {
-        let (_, alone, family) = TRIED[number];
-        let is_family = family != "" && in_family(choices, family, TRIED.len()) > 1;
+        let (_, own, family) = TRIED[number];
+        let is_family = family != Family::Own && in_family(choices, family, TRIED.len()) > 1;
         if !could(choices, number) || (is_family && is_told(choices, family, number)) {
             continue;
         }
-        page.text(if told == 0 { " Here may stand: " } else { ", " })?;
-        page.text(if is_family { family } else { alone })?;
+        page.text(if told == 0 {
+            " Here may stand: "
+        } else {
+            ", "
+        })?;
+        if is_family {
+            page.text(family.words())?;
+        } else {
+            page.bytes(own.as_bytes())?;
+        }
         told = told.saturating_add(1);
     }
     if told > 0 {
@@ -124,9 +156,9 @@ pub fn put_choices(page: &mut Page, choices: &[bool]) -> Result<(), NoMemory> {
     Ok(())
 }
 
-// Whether a family needs no word here: an earlier one of it could stand, or it is but a bar and a minus, which are operators too.
-fn is_told(choices: &[bool], family: &str, number: usize) -> bool {
-    in_family(choices, family, number) > 0 || (family == "an expression" && !could(choices, 1))
+// Whether a family needs no words here: an earlier one of it could stand, or it is but a bar and a minus, which are operators too.
+fn is_told(choices: &[bool], family: Family, number: usize) -> bool {
+    in_family(choices, family, number) > 0 || (family == Family::Expression && !could(choices, 1))
 }
 
 fn could(choices: &[bool], number: usize) -> bool {
@@ -137,7 +169,7 @@ fn could(choices: &[bool], number: usize) -> bool {
 }
 
 // How many of a family could stand, of those before this number.
-fn in_family(choices: &[bool], family: &str, number: usize) -> usize {
+fn in_family(choices: &[bool], family: Family, number: usize) -> usize {
     let mut count = 0usize;
     for other in 0..TRIED.len() {
         if other < number && TRIED[other].2 == family && could(choices, other) {

@@ -13,7 +13,7 @@ pub struct Called {
     is_bound: bool,
     shown: Page,
     /// What the name stands for, before the line; no words for a name that needs none.
-    words: &'static str,
+    words: &'static [u8],
     line: u64,
 }
 
@@ -65,7 +65,7 @@ impl Naming {
         let mut shown = Page::new(alloc);
         shown.bytes(word)?;
         if is_bound {
-            return self.put(alloc, word, number, true, shown, "", 0);
+            return self.put(alloc, word, number, true, shown, b"".as_slice(), 0);
         }
         shown.text("'")?;
         for _ in 0..64 {
@@ -80,7 +80,7 @@ impl Naming {
             number,
             true,
             shown,
-            ": a number of the range of a quantifier",
+            b": a number of the range of a quantifier".as_slice(),
             0,
         )
     }
@@ -92,7 +92,7 @@ impl Naming {
         number: u128,
         is_bound: bool,
         shown: Page,
-        words: &'static str,
+        words: &'static [u8],
         line: u64,
     ) -> Result<(), NoMemory> {
         let mut own = Page::new(alloc);
@@ -121,7 +121,7 @@ impl Naming {
         let mut shown = Page::new(alloc);
         shown.bytes(word)?;
         if is_entry(seen, decl, word, number) {
-            return self.put(alloc, word, number, false, shown, "", 0);
+            return self.put(alloc, word, number, false, shown, b"".as_slice(), 0);
         }
         match origin(seen, decl, word, place) {
             Some((node, words)) => {
@@ -137,7 +137,7 @@ impl Naming {
             None => {
                 shown.text(".")?;
                 shown.whole(i128::try_from(number).unwrap_or(0))?;
-                self.put(alloc, word, number, false, shown, "", 0)
+                self.put(alloc, word, number, false, shown, b"".as_slice(), 0)
             }
         }
     }
@@ -148,12 +148,12 @@ impl Naming {
         let list = self.list.as_slice();
         for number in 0..list.len() {
             let called = &list[number];
-            if called.words == "" || is_told(list, number) {
+            if called.words.is_empty() || is_told(list, number) {
                 continue;
             }
             let mut page = Page::new(alloc);
             put_alike(&mut page, list, called)?;
-            page.text(called.words)?;
+            page.bytes(called.words)?;
             if called.line > 0 {
                 page.number(called.line)?;
             }
@@ -214,7 +214,7 @@ fn is_entry(seen: &Seen, decl: usize, word: &[u8], number: u128) -> bool {
 }
 
 // Where a variable got its last value before the place, with words for it, behind which the line stands.
-fn origin(seen: &Seen, decl: usize, word: &[u8], place: u32) -> Option<(Node, &'static str)> {
+fn origin(seen: &Seen, decl: usize, word: &[u8], place: u32) -> Option<(Node, &'static [u8])> {
     let mut found = None;
     let mut last = 0u32;
     let mut number = 0usize;
@@ -236,7 +236,7 @@ fn origin(seen: &Seen, decl: usize, word: &[u8], place: u32) -> Option<(Node, &'
 }
 
 // From which place on the variable has a value that this node gives it, with words for that.
-fn value_given(seen: &Seen, number: usize, node: Node, word: &[u8]) -> Option<(u32, &'static str)> {
+fn value_given(seen: &Seen, number: usize, node: Node, word: &[u8]) -> Option<(u32, &'static [u8])> {
     match node.class {
         Class::While | Class::Do | Class::For => {
             if is_assigned_in(seen, number, word)
@@ -244,14 +244,14 @@ fn value_given(seen: &Seen, number: usize, node: Node, word: &[u8]) -> Option<(u
             {
                 return Some((
                     node.at,
-                    ": the value at the test of a loop, in the turn that is looked at or behind the last one, line ",
+                    b": the value at the test of a loop, in the turn that is looked at or behind the last one, line ".as_slice(),
                 ));
             }
             None
         }
         Class::If => {
             if is_assigned_in(seen, number, word) {
-                return Some((seen.end_of(number), ": the value behind the `if` of line "));
+                return Some((seen.end_of(number), b": the value behind the `if` of line ".as_slice()));
             }
             None
         }
@@ -259,26 +259,26 @@ fn value_given(seen: &Seen, number: usize, node: Node, word: &[u8]) -> Option<(u
             if is_assigned_in(seen, number, word) {
                 return Some((
                     seen.end_of(number),
-                    ": the value behind the `switch` of line ",
+                    b": the value behind the `switch` of line ".as_slice(),
                 ));
             }
             None
         }
         Class::Declare => {
             if seen.text(node.name) == word {
-                return Some((node.at, ": the value that is given in line "));
+                return Some((node.at, b": the value that is given in line ".as_slice()));
             }
             None
         }
         Class::Assign => {
             if seen.text(node.name) == word {
-                return Some((node.span.to, ": the value that is given in line "));
+                return Some((node.span.to, b": the value that is given in line ".as_slice()));
             }
             None
         }
         Class::Call | Class::CallStmt => {
             if seen.text(node.name) == word {
-                return Some((node.at, ": the result of the call in line "));
+                return Some((node.at, b": the result of the call in line ".as_slice()));
             }
             None
         }

@@ -23,7 +23,7 @@ const TIGHT: u8 = 4;
 /// What is still to be written.
 #[derive(Drop)]
 enum Piece {
-    Word(&'static str),
+    Word(&'static [u8]),
     Text(Page),
     /// A term, and how strongly what stands around it binds.
     Term(u32, u8),
@@ -52,7 +52,7 @@ pub fn put_formula(
     for _ in 0..u64::MAX {
         match todo.pop() {
             None => return Ok(()),
-            Some(Piece::Word(text)) => page.text(text)?,
+            Some(Piece::Word(text)) => page.bytes(text)?,
             Some(Piece::Text(text)) => page.bytes(text.as_slice())?,
             Some(Piece::Term(term, around)) => {
                 let mut pieces = term_pieces(alloc, words, term, around)?;
@@ -69,7 +69,7 @@ pub fn put_formula(
     Ok(())
 }
 
-fn word(alloc: Global, text: &'static str) -> Result<Vec<Piece>, NoMemory> {
+fn word(alloc: Global, text: &'static [u8]) -> Result<Vec<Piece>, NoMemory> {
     let mut pieces = Vec::new(alloc);
     pieces.push(Piece::Word(text))?;
     Ok(pieces)
@@ -115,7 +115,7 @@ fn number_page(alloc: Global, number: i128) -> Result<Page, NoMemory> {
 // Two terms with a sign between, in brackets where what stands around binds more strongly.
 fn operation(
     alloc: Global,
-    sign: &'static str,
+    sign: &'static [u8],
     left: (u32, u8),
     right: (u32, u8),
     own: u8,
@@ -123,13 +123,13 @@ fn operation(
 ) -> Result<Vec<Piece>, NoMemory> {
     let mut pieces = Vec::new(alloc);
     if own < around {
-        pieces.push(Piece::Word("("))?;
+        pieces.push(Piece::Word(b"(".as_slice()))?;
     }
     pieces.push(Piece::Term(left.0, left.1))?;
     pieces.push(Piece::Word(sign))?;
     pieces.push(Piece::Term(right.0, right.1))?;
     if own < around {
-        pieces.push(Piece::Word(")"))?;
+        pieces.push(Piece::Word(b")".as_slice()))?;
     }
     Ok(pieces)
 }
@@ -137,10 +137,10 @@ fn operation(
 // A term between two words.
 fn between(
     alloc: Global,
-    front: &'static str,
+    front: &'static [u8],
     term: u32,
     around: u8,
-    back: &'static str,
+    back: &'static [u8],
 ) -> Result<Vec<Piece>, NoMemory> {
     let mut pieces = Vec::new(alloc);
     pieces.push(Piece::Word(front))?;
@@ -164,16 +164,16 @@ fn term_pieces(alloc: Global, words: Words, term: u32, around: u8) -> Result<Vec
             alloc,
             name_page(alloc, words, name.as_bytes(), *number, false)?,
         ),
-        Node::Add(s, t) => operation(alloc, " + ", (*s, SUM), (*t, PRODUCT), SUM, around),
-        Node::Sub(s, t) => operation(alloc, " - ", (*s, SUM), (*t, PRODUCT), SUM, around),
-        Node::Mul(s, t) => operation(alloc, " * ", (*s, PRODUCT), (*t, TIGHT), PRODUCT, around),
-        Node::Div(s, t) => operation(alloc, " / ", (*s, PRODUCT), (*t, TIGHT), PRODUCT, around),
-        Node::Mod(s, t) => operation(alloc, " % ", (*s, PRODUCT), (*t, TIGHT), PRODUCT, around),
-        Node::Neg(s) => between(alloc, "-", *s, TIGHT, ""),
-        Node::Num(v) | Node::Int(v) => between(alloc, "", *v, around, ""),
-        Node::Len(v) => between(alloc, "|", *v, LOOSE, "|"),
-        Node::Null => word(alloc, "null"),
-        Node::Bool(truth) => word(alloc, if *truth { "true" } else { "false" }),
+        Node::Add(s, t) => operation(alloc, b" + ".as_slice(), (*s, SUM), (*t, PRODUCT), SUM, around),
+        Node::Sub(s, t) => operation(alloc, b" - ".as_slice(), (*s, SUM), (*t, PRODUCT), SUM, around),
+        Node::Mul(s, t) => operation(alloc, b" * ".as_slice(), (*s, PRODUCT), (*t, TIGHT), PRODUCT, around),
+        Node::Div(s, t) => operation(alloc, b" / ".as_slice(), (*s, PRODUCT), (*t, TIGHT), PRODUCT, around),
+        Node::Mod(s, t) => operation(alloc, b" % ".as_slice(), (*s, PRODUCT), (*t, TIGHT), PRODUCT, around),
+        Node::Neg(s) => between(alloc, b"-".as_slice(), *s, TIGHT, b"".as_slice()),
+        Node::Num(v) | Node::Int(v) => between(alloc, b"".as_slice(), *v, around, b"".as_slice()),
+        Node::Len(v) => between(alloc, b"|".as_slice(), *v, LOOSE, b"|".as_slice()),
+        Node::Null => word(alloc, b"null".as_slice()),
+        Node::Bool(truth) => word(alloc, if *truth { b"true".as_slice() } else { b"false".as_slice() }),
         _ => data_pieces(alloc, words, term, node, around),
     }
 }
@@ -190,40 +190,40 @@ fn data_pieces(
         Node::Array(items) => array_pieces(alloc, items.as_slice()),
         Node::Record(fields) => record_pieces(alloc, fields.as_slice()),
         Node::Get(v, s) => {
-            let mut pieces = between(alloc, "", *v, TIGHT, "[")?;
+            let mut pieces = between(alloc, b"".as_slice(), *v, TIGHT, b"[".as_slice())?;
             pieces.push(Piece::Term(*s, LOOSE))?;
-            pieces.push(Piece::Word("]"))?;
+            pieces.push(Piece::Word(b"]".as_slice()))?;
             Ok(pieces)
         }
         Node::Repeat(v, s) => {
-            let mut pieces = between(alloc, "[", *v, LOOSE, "; ")?;
+            let mut pieces = between(alloc, b"[".as_slice(), *v, LOOSE, b"; ".as_slice())?;
             pieces.push(Piece::Term(*s, LOOSE))?;
-            pieces.push(Piece::Word("]"))?;
+            pieces.push(Piece::Word(b"]".as_slice()))?;
             Ok(pieces)
         }
         Node::Update(v, s, w) => {
-            let mut pieces = between(alloc, "", *v, TIGHT, "[")?;
+            let mut pieces = between(alloc, b"".as_slice(), *v, TIGHT, b"[".as_slice())?;
             pieces.push(Piece::Term(*s, LOOSE))?;
-            pieces.push(Piece::Word(" := "))?;
+            pieces.push(Piece::Word(b" := ".as_slice()))?;
             pieces.push(Piece::Term(*w, LOOSE))?;
-            pieces.push(Piece::Word("]"))?;
+            pieces.push(Piece::Word(b"]".as_slice()))?;
             Ok(pieces)
         }
         Node::Field(v, name) => {
-            let mut pieces = between(alloc, "", *v, TIGHT, ".")?;
+            let mut pieces = between(alloc, b"".as_slice(), *v, TIGHT, b".".as_slice())?;
             let mut own = Page::new(alloc);
             own.bytes(name.as_bytes())?;
             pieces.push(Piece::Text(own))?;
             Ok(pieces)
         }
         Node::SetField(v, name, w) => {
-            let mut pieces = between(alloc, "", *v, TIGHT, "{")?;
+            let mut pieces = between(alloc, b"".as_slice(), *v, TIGHT, b"{".as_slice())?;
             let mut own = Page::new(alloc);
             own.bytes(name.as_bytes())?;
             pieces.push(Piece::Text(own))?;
-            pieces.push(Piece::Word(" := "))?;
+            pieces.push(Piece::Word(b" := ".as_slice()))?;
             pieces.push(Piece::Term(*w, LOOSE))?;
-            pieces.push(Piece::Word("}"))?;
+            pieces.push(Piece::Word(b"}".as_slice()))?;
             Ok(pieces)
         }
         Node::Truth(formula) => {
@@ -236,21 +236,21 @@ fn data_pieces(
 }
 
 fn array_pieces(alloc: Global, items: &[u32]) -> Result<Vec<Piece>, NoMemory> {
-    let mut pieces = word(alloc, "[")?;
+    let mut pieces = word(alloc, b"[".as_slice())?;
     let mut is_first = true;
     for item in items {
         if !is_first {
-            pieces.push(Piece::Word(", "))?;
+            pieces.push(Piece::Word(b", ".as_slice()))?;
         }
         is_first = false;
         pieces.push(Piece::Term(*item, LOOSE))?;
     }
-    pieces.push(Piece::Word("]"))?;
+    pieces.push(Piece::Word(b"]".as_slice()))?;
     Ok(pieces)
 }
 
 fn record_pieces(alloc: Global, fields: &[(wy_term::Name, u32)]) -> Result<Vec<Piece>, NoMemory> {
-    let mut pieces = word(alloc, "{")?;
+    let mut pieces = word(alloc, b"{".as_slice())?;
     let mut is_first = true;
     for field in fields {
         let mut own = Page::new(alloc);
@@ -261,7 +261,7 @@ fn record_pieces(alloc: Global, fields: &[(wy_term::Name, u32)]) -> Result<Vec<P
         pieces.push(Piece::Text(own))?;
         pieces.push(Piece::Term(field.1, LOOSE))?;
     }
-    pieces.push(Piece::Word("}"))?;
+    pieces.push(Piece::Word(b"}".as_slice()))?;
     Ok(pieces)
 }
 
@@ -280,7 +280,7 @@ fn formula_pieces(
         Node::AtMost(s, t) => at_most(alloc, words, *s, *t, holds, around),
         Node::Equal(v, w) => operation(
             alloc,
-            if holds { " == " } else { " != " },
+            if holds { b" == ".as_slice() } else { b" != ".as_slice() },
             (*v, SUM),
             (*w, SUM),
             LOGIC,
@@ -295,12 +295,12 @@ fn formula_pieces(
         }
         Node::And(parts) => all_of(alloc, words, parts.as_slice(), holds, around),
         Node::Or(parts) => any_of(alloc, words, parts.as_slice(), holds, around),
-        Node::All(quantifier) => quantified(alloc, "all {", quantifier, holds),
-        Node::Some(quantifier) => quantified(alloc, "some {", quantifier, holds),
+        Node::All(quantifier) => quantified(alloc, b"all {".as_slice(), quantifier, holds),
+        Node::Some(quantifier) => quantified(alloc, b"some {".as_slice(), quantifier, holds),
         _ => {
             let mut pieces = Vec::new(alloc);
             if !holds {
-                pieces.push(Piece::Word("!"))?;
+                pieces.push(Piece::Word(b"!".as_slice()))?;
             }
             pieces.push(Piece::Term(formula, TIGHT))?;
             Ok(pieces)
@@ -346,7 +346,7 @@ fn equation(
     match sides(words.terms, parts) {
         Some((s, t)) => operation(
             alloc,
-            if is_equal { " == " } else { " != " },
+            if is_equal { b" == ".as_slice() } else { b" != ".as_slice() },
             (s, SUM),
             (t, SUM),
             LOGIC,
@@ -366,17 +366,17 @@ fn at_most(
     around: u8,
 ) -> Result<Vec<Piece>, NoMemory> {
     if !holds {
-        return operation(alloc, " < ", (t, SUM), (s, SUM), LOGIC, around);
+        return operation(alloc, b" < ".as_slice(), (t, SUM), (s, SUM), LOGIC, around);
     }
     match node_of(words.terms, s) {
         Some(Node::Add(less, one)) => {
             if is_one(words.terms, *one) {
-                return operation(alloc, " < ", (*less, SUM), (t, SUM), LOGIC, around);
+                return operation(alloc, b" < ".as_slice(), (*less, SUM), (t, SUM), LOGIC, around);
             }
         }
         _ => {}
     }
-    operation(alloc, " <= ", (s, SUM), (t, SUM), LOGIC, around)
+    operation(alloc, b" <= ".as_slice(), (s, SUM), (t, SUM), LOGIC, around)
 }
 
 fn is_one(terms: &Terms, term: u32) -> bool {
@@ -392,12 +392,12 @@ fn kind_pieces(
     kind: &Kind,
     holds: bool,
 ) -> Result<Vec<Piece>, NoMemory> {
-    let mut pieces = between(alloc, if holds { "" } else { "!(" }, value, TIGHT, " is ")?;
+    let mut pieces = between(alloc, if holds { b"".as_slice() } else { b"!(".as_slice() }, value, TIGHT, b" is ".as_slice())?;
     match kind {
-        Kind::Null => pieces.push(Piece::Word("null"))?,
-        Kind::Bool => pieces.push(Piece::Word("bool"))?,
-        Kind::Int => pieces.push(Piece::Word("int"))?,
-        Kind::Array => pieces.push(Piece::Word("an array"))?,
+        Kind::Null => pieces.push(Piece::Word(b"null".as_slice()))?,
+        Kind::Bool => pieces.push(Piece::Word(b"bool".as_slice()))?,
+        Kind::Int => pieces.push(Piece::Word(b"int".as_slice()))?,
+        Kind::Array => pieces.push(Piece::Word(b"an array".as_slice()))?,
         Kind::Record(fields) => {
             let mut own = Page::new(alloc);
             own.text("a record {")?;
@@ -412,7 +412,7 @@ fn kind_pieces(
         }
     }
     if !holds {
-        pieces.push(Piece::Word(")"))?;
+        pieces.push(Piece::Word(b")".as_slice()))?;
     }
     Ok(pieces)
 }
@@ -424,7 +424,7 @@ fn in_pieces(
     number: u32,
     holds: bool,
 ) -> Result<Vec<Piece>, NoMemory> {
-    let mut pieces = between(alloc, if holds { "" } else { "!(" }, value, TIGHT, " is ")?;
+    let mut pieces = between(alloc, if holds { b"".as_slice() } else { b"!(".as_slice() }, value, TIGHT, b" is ".as_slice())?;
     let mut own = Page::new(alloc);
     match alias_name(words.core, number) {
         Some(name) => own.text(name.as_str())?,
@@ -446,7 +446,7 @@ fn joined(
     let mut pieces = Vec::new(alloc);
     match parts {
         [] => {
-            pieces.push(Piece::Word(if is_all { "true" } else { "false" }))?;
+            pieces.push(Piece::Word(if is_all { b"true".as_slice() } else { b"false".as_slice() }))?;
             return Ok(pieces);
         }
         [only] => {
@@ -456,31 +456,31 @@ fn joined(
         _ => {}
     }
     if around > LOOSE {
-        pieces.push(Piece::Word("("))?;
+        pieces.push(Piece::Word(b"(".as_slice()))?;
     }
     let mut is_first = true;
     for part in parts {
         if !is_first {
-            pieces.push(Piece::Word(if is_all { " && " } else { " || " }))?;
+            pieces.push(Piece::Word(if is_all { b" && ".as_slice() } else { b" || ".as_slice() }))?;
         }
         is_first = false;
         pieces.push(Piece::Formula(*part, holds, LOGIC))?;
     }
     if around > LOOSE {
-        pieces.push(Piece::Word(")"))?;
+        pieces.push(Piece::Word(b")".as_slice()))?;
     }
     Ok(pieces)
 }
 
 fn quantified(
     alloc: Global,
-    front: &'static str,
+    front: &'static [u8],
     quantifier: &Quantifier,
     holds: bool,
 ) -> Result<Vec<Piece>, NoMemory> {
     let mut pieces = Vec::new(alloc);
     if !holds {
-        pieces.push(Piece::Word("!"))?;
+        pieces.push(Piece::Word(b"!".as_slice()))?;
     }
     pieces.push(Piece::Word(front))?;
     let mut own = Page::new(alloc);
@@ -489,10 +489,10 @@ fn quantified(
     own.text(" in ")?;
     pieces.push(Piece::Text(own))?;
     pieces.push(Piece::Term(quantifier.from, SUM))?;
-    pieces.push(Piece::Word(".."))?;
+    pieces.push(Piece::Word(b"..".as_slice()))?;
     pieces.push(Piece::Term(quantifier.below, SUM))?;
-    pieces.push(Piece::Word(" | "))?;
+    pieces.push(Piece::Word(b" | ".as_slice()))?;
     pieces.push(Piece::Formula(quantifier.body, true, LOOSE))?;
-    pieces.push(Piece::Word(" }"))?;
+    pieces.push(Piece::Word(b" }".as_slice()))?;
     Ok(pieces)
 }
