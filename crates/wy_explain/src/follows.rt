@@ -138,11 +138,7 @@ pub fn put_choices(page: &mut Page, choices: &[bool]) -> Result<(), NoMemory> {
         if !could(choices, number) || (is_family && is_told(choices, family, number)) {
             continue;
         }
-        page.text(if told == 0 {
-            " Here may stand: "
-        } else {
-            ", "
-        })?;
+        page.text(if told == 0 { " Here may stand: " } else { ", " })?;
         if is_family {
             page.text(family.words())?;
         } else {

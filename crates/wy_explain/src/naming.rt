@@ -236,7 +236,12 @@ fn origin(seen: &Seen, decl: usize, word: &[u8], place: u32) -> Option<(Node, &'
 }
 
 // From which place on the variable has a value that this node gives it, with words for that.
-fn value_given(seen: &Seen, number: usize, node: Node, word: &[u8]) -> Option<(u32, &'static [u8])> {
+fn value_given(
+    seen: &Seen,
+    number: usize,
+    node: Node,
+    word: &[u8],
+) -> Option<(u32, &'static [u8])> {
     match node.class {
         Class::While | Class::Do | Class::For => {
             if is_assigned_in(seen, number, word)
@@ -251,7 +256,10 @@ fn value_given(seen: &Seen, number: usize, node: Node, word: &[u8]) -> Option<(u
         }
         Class::If => {
             if is_assigned_in(seen, number, word) {
-                return Some((seen.end_of(number), b": the value behind the `if` of line ".as_slice()));
+                return Some((
+                    seen.end_of(number),
+                    b": the value behind the `if` of line ".as_slice(),
+                ));
             }
             None
         }
@@ -272,7 +280,10 @@ fn value_given(seen: &Seen, number: usize, node: Node, word: &[u8]) -> Option<(u
         }
         Class::Assign => {
             if seen.text(node.name) == word {
-                return Some((node.span.to, b": the value that is given in line ".as_slice()));
+                return Some((
+                    node.span.to,
+                    b": the value that is given in line ".as_slice(),
+                ));
             }
             None
         }

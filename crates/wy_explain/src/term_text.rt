@@ -164,16 +164,58 @@ fn term_pieces(alloc: Global, words: Words, term: u32, around: u8) -> Result<Vec
             alloc,
             name_page(alloc, words, name.as_bytes(), *number, false)?,
         ),
-        Node::Add(s, t) => operation(alloc, b" + ".as_slice(), (*s, SUM), (*t, PRODUCT), SUM, around),
-        Node::Sub(s, t) => operation(alloc, b" - ".as_slice(), (*s, SUM), (*t, PRODUCT), SUM, around),
-        Node::Mul(s, t) => operation(alloc, b" * ".as_slice(), (*s, PRODUCT), (*t, TIGHT), PRODUCT, around),
-        Node::Div(s, t) => operation(alloc, b" / ".as_slice(), (*s, PRODUCT), (*t, TIGHT), PRODUCT, around),
-        Node::Mod(s, t) => operation(alloc, b" % ".as_slice(), (*s, PRODUCT), (*t, TIGHT), PRODUCT, around),
+        Node::Add(s, t) => operation(
+            alloc,
+            b" + ".as_slice(),
+            (*s, SUM),
+            (*t, PRODUCT),
+            SUM,
+            around,
+        ),
+        Node::Sub(s, t) => operation(
+            alloc,
+            b" - ".as_slice(),
+            (*s, SUM),
+            (*t, PRODUCT),
+            SUM,
+            around,
+        ),
+        Node::Mul(s, t) => operation(
+            alloc,
+            b" * ".as_slice(),
+            (*s, PRODUCT),
+            (*t, TIGHT),
+            PRODUCT,
+            around,
+        ),
+        Node::Div(s, t) => operation(
+            alloc,
+            b" / ".as_slice(),
+            (*s, PRODUCT),
+            (*t, TIGHT),
+            PRODUCT,
+            around,
+        ),
+        Node::Mod(s, t) => operation(
+            alloc,
+            b" % ".as_slice(),
+            (*s, PRODUCT),
+            (*t, TIGHT),
+            PRODUCT,
+            around,
+        ),
         Node::Neg(s) => between(alloc, b"-".as_slice(), *s, TIGHT, b"".as_slice()),
         Node::Num(v) | Node::Int(v) => between(alloc, b"".as_slice(), *v, around, b"".as_slice()),
         Node::Len(v) => between(alloc, b"|".as_slice(), *v, LOOSE, b"|".as_slice()),
         Node::Null => word(alloc, b"null".as_slice()),
-        Node::Bool(truth) => word(alloc, if *truth { b"true".as_slice() } else { b"false".as_slice() }),
+        Node::Bool(truth) => word(
+            alloc,
+            if *truth {
+                b"true".as_slice()
+            } else {
+                b"false".as_slice()
+            },
+        ),
         _ => data_pieces(alloc, words, term, node, around),
     }
 }
@@ -280,7 +322,11 @@ fn formula_pieces(
         Node::AtMost(s, t) => at_most(alloc, words, *s, *t, holds, around),
         Node::Equal(v, w) => operation(
             alloc,
-            if holds { b" == ".as_slice() } else { b" != ".as_slice() },
+            if holds {
+                b" == ".as_slice()
+            } else {
+                b" != ".as_slice()
+            },
             (*v, SUM),
             (*w, SUM),
             LOGIC,
@@ -346,7 +392,11 @@ fn equation(
     match sides(words.terms, parts) {
         Some((s, t)) => operation(
             alloc,
-            if is_equal { b" == ".as_slice() } else { b" != ".as_slice() },
+            if is_equal {
+                b" == ".as_slice()
+            } else {
+                b" != ".as_slice()
+            },
             (s, SUM),
             (t, SUM),
             LOGIC,
@@ -371,7 +421,14 @@ fn at_most(
     match node_of(words.terms, s) {
         Some(Node::Add(less, one)) => {
             if is_one(words.terms, *one) {
-                return operation(alloc, b" < ".as_slice(), (*less, SUM), (t, SUM), LOGIC, around);
+                return operation(
+                    alloc,
+                    b" < ".as_slice(),
+                    (*less, SUM),
+                    (t, SUM),
+                    LOGIC,
+                    around,
+                );
             }
         }
         _ => {}
@@ -392,7 +449,17 @@ fn kind_pieces(
     kind: &Kind,
     holds: bool,
 ) -> Result<Vec<Piece>, NoMemory> {
-    let mut pieces = between(alloc, if holds { b"".as_slice() } else { b"!(".as_slice() }, value, TIGHT, b" is ".as_slice())?;
+    let mut pieces = between(
+        alloc,
+        if holds {
+            b"".as_slice()
+        } else {
+            b"!(".as_slice()
+        },
+        value,
+        TIGHT,
+        b" is ".as_slice(),
+    )?;
     match kind {
         Kind::Null => pieces.push(Piece::Word(b"null".as_slice()))?,
         Kind::Bool => pieces.push(Piece::Word(b"bool".as_slice()))?,
@@ -424,7 +491,17 @@ fn in_pieces(
     number: u32,
     holds: bool,
 ) -> Result<Vec<Piece>, NoMemory> {
-    let mut pieces = between(alloc, if holds { b"".as_slice() } else { b"!(".as_slice() }, value, TIGHT, b" is ".as_slice())?;
+    let mut pieces = between(
+        alloc,
+        if holds {
+            b"".as_slice()
+        } else {
+            b"!(".as_slice()
+        },
+        value,
+        TIGHT,
+        b" is ".as_slice(),
+    )?;
     let mut own = Page::new(alloc);
     match alias_name(words.core, number) {
         Some(name) => own.text(name.as_str())?,
@@ -446,7 +523,11 @@ fn joined(
     let mut pieces = Vec::new(alloc);
     match parts {
         [] => {
-            pieces.push(Piece::Word(if is_all { b"true".as_slice() } else { b"false".as_slice() }))?;
+            pieces.push(Piece::Word(if is_all {
+                b"true".as_slice()
+            } else {
+                b"false".as_slice()
+            }))?;
             return Ok(pieces);
         }
         [only] => {
@@ -461,7 +542,11 @@ fn joined(
     let mut is_first = true;
     for part in parts {
         if !is_first {
-            pieces.push(Piece::Word(if is_all { b" && ".as_slice() } else { b" || ".as_slice() }))?;
+            pieces.push(Piece::Word(if is_all {
+                b" && ".as_slice()
+            } else {
+                b" || ".as_slice()
+            }))?;
         }
         is_first = false;
         pieces.push(Piece::Formula(*part, holds, LOGIC))?;
