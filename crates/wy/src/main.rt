@@ -4,8 +4,6 @@
 //! ends with the status that comes back.
 #![tactic(auto)]
 
-ghost use Rattle.wy_headline.specs.System.{IsStatus};
-
 #[cfg(test)]
 mod test_files;
 #[cfg(test)]
@@ -28,18 +26,11 @@ fn main(rt: HostRuntime) -> ExitCode {
     let Ok(words) = words(&rt) else {
         return ExitCode::from(NO_MEMORY);
     };
-    ExitCode::from(status(&rt, &words))
-}
-
-// Does what the words say, over the files of the system and both standard streams, and answers the exit status: with the
-// clauses of `run_words`, of files and sinks that tell no contents and count their faults from 0.
-fn status(rt: &HostRuntime, words: &[String]) -> u8
-    ensures status { IsStatus words.now result }
-{
-    let mut files = DiskFiles::new(rt);
+    let mut files = DiskFiles::new(&rt);
     let mut out = StdSink::new(rt.stdout());
     let mut err = StdSink::new(rt.stderr());
-    run_words(rt, rt.alloc(), words, &mut files, &mut out, &mut err)
+    let status = run_words(&rt, rt.alloc(), &words, &mut files, &mut out, &mut err);
+    ExitCode::from(status)
 }
 
 // The words behind the program's own name. Where one isn't text there are none, and so no command.
