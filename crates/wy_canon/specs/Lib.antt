@@ -4,6 +4,6 @@ pub mod Width
 pub mod Digests
 pub mod Numbered
 -- passed on to the crates above
-pub use Rattle.wy_core.specs as wy_core
+pub use Rattle.wy_types.specs.wy_core as wy_core
 pub use Rattle.wy_types.specs as wy_types
 pub use Rattle.wy_types.specs.wy_value as wy_value

@@ -1,15 +1,14 @@
 //! The types for which numbers stand, and the conjuncts of these.
 ghost use Rattle.std.specs.Prelude.{◌≡◌, IfOk};
-ghost use Rattle.wy_core.specs.CoreSeen.{seen_ty, seen_atom, seen_part};
+ghost use Rattle.wy_types.specs.wy_core.CoreSeen.{seen_ty, seen_atom, seen_part};
 ghost use Rattle.wy_types.specs.Reading as reading;
 ghost use Rattle.wy_types.specs.SeenTypes.{seen_kind, seen_fields, seen_conjuncts, seen_atoms, seen_parts};
 
 use crate::normal_forms::node_of;
 use std::alloc::{AllocError, Global};
-use wy_core as tree;
 use wy_data::Name;
 use wy_items::{Boxed, Items};
-use wy_types::{Atom, Conjunct, Node, Part, Signed, Table};
+use wy_types::{Atom, Conjunct, Node, Part, Signed, Table, wy_core as tree};
 
 /// The type for which the number stands, no deeper than `depth`, each node at `at`.
 #[cycle(read)]

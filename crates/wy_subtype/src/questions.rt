@@ -1,6 +1,6 @@
 //! Questions about the types of a program.
 ghost use Rattle.std.specs.Prelude.{◌≡◌, true, false, IfOk, OnOk};
-ghost use Rattle.wy_core.specs.CoreSeen.{seen_ty};
+ghost use Rattle.wy_canon.specs.wy_core.CoreSeen.{seen_ty};
 ghost use Rattle.wy_subtype.specs.Known.{WideOnly};
 ghost use Rattle.wy_canon.specs.wy_types.Names.{Up, types_of};
 ghost use Rattle.wy_canon.specs.wy_types.Questions.{IsOver, IsWideAbout, IsWideWithin};
@@ -9,8 +9,8 @@ ghost use Rattle.wy_canon.specs.wy_value.Datum.{Datum};
 
 use crate::inclusion::{is_inhabited, is_within};
 use std::alloc::Global;
+use wy_canon::wy_core::Ty;
 use wy_canon::{Names, Question, TypeFault};
-use wy_core::Ty;
 
 /// Whether every datum in `a` is in `b`, by upward readings of both. Wide exactly where the question
 /// is. The question becomes this one, in time linear in the size of both types and of the two before;

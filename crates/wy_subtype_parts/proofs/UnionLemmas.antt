@@ -2,7 +2,7 @@
 use Rattle.std.proofs.Common.{◌≡◌, ◌↔◌, ◌∙◌, ℕ, List, [], true, false, inl, inr, sym, ap, subst}
 use Rattle.wy_subtype.specs.wy_value.Datum.{Datum, Data}
 use Rattle.wy_subtype.specs.wy_value.Datum as datum
-use Rattle.wy_core.specs.Types.{Ty, NormalTy}
+use Rattle.wy_subtype.specs.wy_core.Types.{Ty, NormalTy}
 use Rattle.wy_subtype.specs.wy_types.declared.conjuncts.Conjunct.{Conjunct}
 use Rattle.wy_subtype.specs.wy_types.declared.question.Question.{Question}
 use Rattle.wy_subtype.specs.wy_types.Membership as terms

@@ -3,7 +3,7 @@ use Rattle.std.specs.Prelude.{◌≡◌, ℕ, List, [], ◌∷◌, Bool, true, f
 use Rattle.std.specs.Str.{bytes_eq}
 use Rattle.wy_subtype.specs.wy_value.Datum.{Datum, Fields, no_fields, field}
 use Rattle.wy_subtype.specs.wy_value.Datum as datum
-use Rattle.wy_core.specs.Types.{Ty, NormalTy}
+use Rattle.wy_subtype.specs.wy_core.Types.{Ty, NormalTy}
 use Rattle.wy_subtype.specs.wy_types.declared.conjuncts.Part.{Part}
 use Rattle.wy_subtype.specs.wy_types.declared.conjuncts.Signed.{Signed}
 use Rattle.wy_subtype.specs.wy_types.declared.conjuncts.Atom.{Atom}

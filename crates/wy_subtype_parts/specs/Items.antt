@@ -2,7 +2,7 @@
 use Rattle.std.specs.Prelude.{◌≡◌, ℕ, List, [], ◌∷◌, Bool, true, false, ◌&&◌, ◌⊎◌}
 use Rattle.wy_subtype.specs.wy_value.Datum.{Datum, Data, no_items, item}
 use Rattle.wy_subtype.specs.wy_value.Datum as datum
-use Rattle.wy_core.specs.Types.{Ty, NormalTy}
+use Rattle.wy_subtype.specs.wy_core.Types.{Ty, NormalTy}
 use Rattle.wy_subtype.specs.wy_types.declared.conjuncts.Atom.{Atom}
 use Rattle.wy_subtype.specs.wy_types.declared.conjuncts.Atom.TheVariants as atom
 use Rattle.wy_subtype.specs.wy_types.declared.conjuncts.Conjunct.{Conjunct}

@@ -1,6 +1,6 @@
 -- The conjuncts of a type that have a value, as a type.
 use Rattle.std.specs.Prelude.{◌≡◌, ℕ, List}
-use Rattle.wy_core.specs.Types.{Ty, NormalTy}
+use Rattle.wy_subtype.specs.wy_core.Types.{Ty, NormalTy}
 use Rattle.wy_subtype.specs.wy_types.declared.conjuncts.Conjunct.{Conjunct}
 use Rattle.wy_subtype.specs.wy_types.declared.question.Question.{Question}
 use Rattle.wy_subtype.specs.wy_types.Conjuncts.{dnf_part}

@@ -1,7 +1,7 @@
 //! The items of arrays.
 ghost use Rattle.std.specs.Prelude.{◌≡◌, ◌↔◌, [], true, IfOk, OnOk};
 ghost use Rattle.wy_subtype.specs.wy_canon.Width.{Exactly};
-ghost use Rattle.wy_core.specs.CoreSeen.{seen_ty};
+ghost use Rattle.wy_subtype.specs.wy_core.CoreSeen.{seen_ty};
 ghost use Rattle.wy_subtype_parts.specs.Items as items;
 ghost use Rattle.wy_subtype_parts.specs.Items.{IsElement, IsElements, IsItemIn, IsWideElement, IsWideItems};
 ghost use Rattle.wy_subtype.specs.Known.{WideOnly};
@@ -13,11 +13,10 @@ ghost use Rattle.wy_subtype.specs.wy_value.Datum.{Datum};
 use crate::asking::{first_part, normal_type};
 use crate::norms::norm_in;
 use std::alloc::Global;
-use wy_core as tree;
 use wy_items::Items;
 use wy_subtype::{
     Atom, Conjunct, Names, Question, Table, TypeFault, conjuncts_at, dnf_part, united_conjuncts,
-    valued_conjuncts,
+    valued_conjuncts, wy_core as tree,
 };
 
 // The list, and the conjuncts of the part of an array.

@@ -1,14 +1,13 @@
 //! The part that a question about one type is, and a normal type of conjuncts.
 ghost use Rattle.std.specs.Prelude.{◌≡◌, IfOk};
-ghost use Rattle.wy_core.specs.CoreSeen.{seen_ty};
-ghost use Rattle.wy_core.specs.Types.{NormalTy};
+ghost use Rattle.wy_subtype.specs.wy_core.CoreSeen.{seen_ty};
+ghost use Rattle.wy_subtype.specs.wy_core.Types.{NormalTy};
 ghost use Rattle.wy_subtype.specs.wy_types.Questions as questions;
 ghost use Rattle.wy_subtype.specs.wy_types.SeenTypes.{seen_conjuncts, seen_kind};
 
 use std::alloc::{AllocError, Global};
-use wy_core as tree;
 use wy_items::Items;
-use wy_subtype::{Question, Signed, with_sides};
+use wy_subtype::{Question, Signed, with_sides, wy_core as tree};
 
 /// What is in the first type of the question.
 pub fn first_part(alloc: Global, question: &Question) -> Result<Items<Signed<u32>>, AllocError>

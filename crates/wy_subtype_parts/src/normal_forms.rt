@@ -1,6 +1,6 @@
 //! The normal form of a type.
 ghost use Rattle.std.specs.Prelude.{◌≡◌, IfOk, OnOk};
-ghost use Rattle.wy_core.specs.CoreSeen.{seen_ty};
+ghost use Rattle.wy_subtype.specs.wy_core.CoreSeen.{seen_ty};
 ghost use Rattle.wy_subtype.specs.Known.{WideOnly};
 ghost use Rattle.wy_subtype.specs.wy_types.Names.{Up, types_of, shape_of, is_in_normal};
 ghost use Rattle.wy_subtype.specs.wy_types.Questions.{IsOver, IsWideAbout, normal_of};
@@ -10,9 +10,8 @@ ghost use Rattle.wy_subtype.specs.wy_value.Datum.{Datum};
 
 use crate::asking::first_part;
 use std::alloc::Global;
-use wy_core as tree;
 use wy_items::Items;
-use wy_subtype::{Names, Question, TypeFault, conjuncts_at, narrow_conjuncts};
+use wy_subtype::{Names, Question, TypeFault, conjuncts_at, narrow_conjuncts, wy_core as tree};
 
 /// The conjuncts of what is in the type, by its upward reading, in order. The union of them is that
 /// reading. Each node stands where the type does. Wide exactly where the question about the type is.

@@ -1,6 +1,6 @@
 //! The conjuncts of a type that have a value, as a type.
 ghost use Rattle.std.specs.Prelude.{◌≡◌, IfOk, OnOk};
-ghost use Rattle.wy_core.specs.CoreSeen.{seen_ty};
+ghost use Rattle.wy_subtype.specs.wy_core.CoreSeen.{seen_ty};
 ghost use Rattle.wy_subtype_parts.specs.Norms.{IsNorm};
 ghost use Rattle.wy_subtype.specs.Known.{WideOnly};
 ghost use Rattle.wy_subtype.specs.wy_types.Names.{Up, types_of};
@@ -10,8 +10,7 @@ ghost use Rattle.wy_subtype.specs.wy_value.Datum.{Datum};
 
 use crate::asking::{first_part, normal_type};
 use std::alloc::Global;
-use wy_core as tree;
-use wy_subtype::{Names, Question, TypeFault, conjuncts_at, valued_conjuncts};
+use wy_subtype::{Names, Question, TypeFault, conjuncts_at, valued_conjuncts, wy_core as tree};
 
 /// The conjuncts of the type that have a value, by its upward reading, as a normal type: the same
 /// set. Each node stands where the type does. Wide exactly where the question about the type is. The

@@ -1,7 +1,7 @@
 //! The values at a field of records.
 ghost use Rattle.std.specs.Prelude.{◌≡◌, ◌↔◌, [], true, false, IfOk, IfSome, OnOk, Some, None};
 ghost use Rattle.wy_subtype.specs.wy_canon.Width.{Exactly};
-ghost use Rattle.wy_core.specs.CoreSeen.{seen_ty};
+ghost use Rattle.wy_subtype.specs.wy_core.CoreSeen.{seen_ty};
 ghost use Rattle.wy_subtype_parts.specs.Fields as at_field;
 ghost use Rattle.wy_subtype_parts.specs.Fields.{AllHave, HasNoUnion, IsField, IsUnion, IsValueIn, IsWideField, IsWideValues, SomeLacks};
 ghost use Rattle.wy_subtype.specs.Known.{WideOnly};
@@ -13,12 +13,11 @@ ghost use Rattle.wy_subtype.specs.wy_value.Datum.{Datum};
 use crate::asking::{first_part, normal_type};
 use crate::norms::norm_in;
 use std::alloc::Global;
-use wy_core as tree;
 use wy_data::Name;
 use wy_items::Items;
 use wy_subtype::{
     Atom, Conjunct, Names, Part, Question, Table, TypeFault, conjuncts_at, dnf_part,
-    inhabited_parts, united_conjuncts,
+    inhabited_parts, united_conjuncts, wy_core as tree,
 };
 
 // Whether one of the fields has the name.

@@ -30,3 +30,4 @@ pub use sameness::{
     has_atom, has_conjunct, has_signed, same_atom, same_conjunct, same_signed, same_terms,
 };
 pub use table::{Definition, Node, Table};
+pub use wy_core;

@@ -1,6 +1,6 @@
 -- What was found in a table of both types.
 use Rattle.std.proofs.Common.{◌≡◌, ℕ, List, [], subst}
-use Rattle.wy_core.specs.Types.{Ty, NormalTy}
+use Rattle.wy_subtype.specs.wy_core.Types.{Ty, NormalTy}
 use Rattle.wy_subtype.specs.wy_types.declared.question.Question.{Question}
 use Rattle.wy_subtype.specs.wy_types.Names.{Declared}
 use Rattle.wy_subtype.specs.wy_types.Questions.{numbered, first_part}

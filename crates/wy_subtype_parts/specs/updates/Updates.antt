@@ -1,7 +1,7 @@
 -- The records of a type with another value at a field.
 use Rattle.std.specs.Prelude.{◌≡◌, ℕ, List, [], ◌∷◌, true, cond}
 use Rattle.std.specs.Str.{bytes_eq}
-use Rattle.wy_core.specs.Types.{Ty, NormalTy}
+use Rattle.wy_subtype.specs.wy_core.Types.{Ty, NormalTy}
 use Rattle.wy_subtype.specs.wy_types.declared.conjuncts.Part.{Part}
 use Rattle.wy_subtype.specs.wy_types.declared.conjuncts.Signed.{Signed}
 use Rattle.wy_subtype.specs.wy_types.declared.conjuncts.Atom.TheVariants as atom

@@ -1,21 +1,22 @@
 //! The records of a type with another value at a field.
 ghost use Rattle.std.specs.Prelude.{◌≡◌, IfOk, OnOk};
-ghost use Rattle.wy_core.specs.CoreSeen.{seen_ty};
+ghost use Rattle.wy_subtype.specs.wy_core.CoreSeen.{seen_ty};
 ghost use Rattle.wy_subtype.specs.Known.{WideOnly};
 ghost use Rattle.wy_subtype.specs.wy_types.Names.{types_of};
 ghost use Rattle.wy_subtype.specs.wy_types.Questions as questions;
 ghost use Rattle.wy_subtype.specs.wy_types.Questions.{IsOver};
 ghost use Rattle.wy_subtype.specs.wy_types.Recursion.{RecurThroughParts};
 ghost use Rattle.wy_subtype.specs.wy_types.SeenTypes.{seen_conjuncts, seen_kind};
-ghost use Rattle.wy_core.specs.Types.{NormalTy};
+ghost use Rattle.wy_subtype.specs.wy_core.Types.{NormalTy};
 ghost use Rattle.wy_subtype_parts.specs.updates.Updates.{IsWith, IsWideWith, second_part};
 
 use crate::updates::replaced::records_of;
 use std::alloc::{AllocError, Global};
-use wy_core as tree;
 use wy_data::Name;
 use wy_items::Items;
-use wy_subtype::{Names, Question, Signed, TypeFault, conjuncts_at, inhabited_parts, with_sides};
+use wy_subtype::{
+    Names, Question, Signed, TypeFault, conjuncts_at, inhabited_parts, with_sides, wy_core as tree,
+};
 
 // What is in the first type of the question.
 fn first_part(alloc: Global, question: &Question) -> Result<Items<Signed<u32>>, AllocError>

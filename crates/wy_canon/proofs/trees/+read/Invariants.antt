@@ -1,6 +1,6 @@
 use Rattle.std.proofs.Common.{◌≡◌, ℕ, ◌+◌, ◌*◌, take, map, List, Bool}
-use Rattle.wy_core.specs.Types.{Ty, Part}
-use Rattle.wy_core.specs.CoreSeen.{seen_ty, seen_conjunct, seen_atom, seen_part}
+use Rattle.wy_types.specs.wy_core.Types.{Ty, Part}
+use Rattle.wy_types.specs.wy_core.CoreSeen.{seen_ty, seen_conjunct, seen_atom, seen_part}
 use Rattle.wy_types.specs.Reading as reading
 use Rattle.wy_types.specs.SeenTypes.{seen_signed}
 use Rattle.wy_canon.proofs.trees.+read.Given as goal

@@ -1,6 +1,6 @@
 use Rattle.std.proofs.Common.{◌≡◌, ◌∙◌, true, inr, sym}
-use Rattle.wy_core.specs.CoreSeen.{seen_ty}
-use Rattle.wy_core.specs.declared.types.Ty as rust
+use Rattle.wy_subtype.specs.wy_core.CoreSeen.{seen_ty}
+use Rattle.wy_subtype.specs.wy_core.declared.types.Ty as rust
 use Rattle.wy_subtype.specs.wy_types.Names.{types_of}
 use Rattle.wy_subtype.specs.wy_types.Questions.{IsWideAbout}
 use Rattle.wy_subtype.proofs.RefusalLemmas.{wide_map}

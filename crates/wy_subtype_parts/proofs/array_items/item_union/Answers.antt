@@ -1,6 +1,6 @@
 use Rattle.std.proofs.Common.{◌≡◌, ◌∙◌, ℕ, List, [], true, inr, ap, subst}
-use Rattle.wy_core.specs.Types.{NormalTy}
-use Rattle.wy_core.specs.CoreSeen.{seen_ty}
+use Rattle.wy_subtype.specs.wy_core.Types.{NormalTy}
+use Rattle.wy_subtype.specs.wy_core.CoreSeen.{seen_ty}
 use Rattle.wy_subtype.specs.wy_types.declared.conjuncts.Signed.{Signed}
 use Rattle.wy_subtype.specs.wy_types.declared.conjuncts.Conjunct.{Conjunct}
 use Rattle.wy_subtype.specs.wy_types.declared.question.Question.{Question}
@@ -11,7 +11,7 @@ use Rattle.wy_subtype.specs.wy_types.Reach.{IsWide}
 use Rattle.wy_subtype.specs.wy_types.Reading.{ty_at, conjuncts_at}
 use Rattle.wy_subtype.specs.Valued.{AreValued}
 use Rattle.wy_subtype_parts.specs.Items.{elements, narrow_elements}
-use Rattle.wy_core.specs.declared.types.Ty as rust
+use Rattle.wy_subtype.specs.wy_core.declared.types.Ty as rust
 use Rattle.wy_subtype.proofs.RefusalLemmas.{exactly_map}
 use Rattle.wy_subtype_parts.specs.Items.{IsWideItems}
 use Rattle.wy_subtype_parts.proofs.UnionLemmas.{is_union, union_set, wide_union, narrow_union, narrow_items}

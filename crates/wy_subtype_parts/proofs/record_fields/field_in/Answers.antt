@@ -1,8 +1,8 @@
 use Rattle.std.proofs.Common.{◌≡◌, ◌↔◌, ◌∙◌, Option, Some, None, true, inr, sym, subst}
 use Rattle.std.specs.Prelude.{IfSome}
 use Rattle.wy_subtype.specs.wy_value.Datum.{Datum}
-use Rattle.wy_core.specs.CoreSeen.{seen_ty}
-use Rattle.wy_core.specs.declared.types.Ty as rust
+use Rattle.wy_subtype.specs.wy_core.CoreSeen.{seen_ty}
+use Rattle.wy_subtype.specs.wy_core.declared.types.Ty as rust
 use Rattle.wy_subtype.specs.wy_types.Names.{Up, types_of}
 use Rattle.wy_subtype.specs.wy_types.Questions.{IsWideAbout}
 use Rattle.wy_subtype.proofs.RefusalLemmas.{wide_map}

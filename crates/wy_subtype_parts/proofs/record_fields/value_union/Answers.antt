@@ -1,6 +1,6 @@
 use Rattle.std.proofs.Common.{◌≡◌, ◌∙◌, ℕ, List, [], true, false, inr, sym, ap, subst}
-use Rattle.wy_core.specs.Types.{NormalTy}
-use Rattle.wy_core.specs.CoreSeen.{seen_ty}
+use Rattle.wy_subtype.specs.wy_core.Types.{NormalTy}
+use Rattle.wy_subtype.specs.wy_core.CoreSeen.{seen_ty}
 use Rattle.wy_subtype.specs.wy_types.declared.conjuncts.Part.{Part}
 use Rattle.wy_subtype.specs.wy_types.declared.conjuncts.Signed.{Signed}
 use Rattle.wy_subtype.specs.wy_types.declared.question.Question.{Question}
@@ -12,7 +12,7 @@ use Rattle.wy_subtype.specs.wy_types.Reading.{ty_at, conjuncts_at}
 use Rattle.wy_subtype.specs.Valued.{AreThose}
 use Rattle.wy_subtype_parts.specs.Fields.{all_have, values_at, narrow_values}
 use Rattle.wy_subtype.specs.wy_types.declared.conjuncts.Conjunct.{Conjunct}
-use Rattle.wy_core.specs.declared.types.Ty as rust
+use Rattle.wy_subtype.specs.wy_core.declared.types.Ty as rust
 use Rattle.std.specs.Prelude.{Option}
 use Rattle.wy_subtype.proofs.RefusalLemmas.{exactly_map}
 use Rattle.wy_subtype_parts.specs.Fields.{IsWideValues}

@@ -1,6 +1,6 @@
 use Rattle.std.proofs.Common.{◌≡◌, ◌∙◌, ℕ, List, [], ap, subst}
-use Rattle.wy_core.specs.Types.{NormalTy}
-use Rattle.wy_core.specs.CoreSeen.{seen_ty}
+use Rattle.wy_subtype.specs.wy_core.Types.{NormalTy}
+use Rattle.wy_subtype.specs.wy_core.CoreSeen.{seen_ty}
 use Rattle.wy_subtype.specs.wy_types.declared.conjuncts.Signed.{Signed}
 use Rattle.wy_subtype.specs.wy_types.declared.conjuncts.Part.{Part}
 use Rattle.wy_subtype.specs.wy_types.Conjuncts.{dnf_part}
