@@ -2,12 +2,12 @@
 ghost use Rattle.std.specs.Prelude.{All};
 ghost use Rattle.wy_vc.specs.Told.{IsCond};
 
-use crate::judged::judged;
+use crate::judged::{Judged, judged};
 use crate::passes::{Passes, Refused, typed_program};
 use crate::trying::put_tried;
 use std::alloc::Global;
 use wy_explain::{
-    Cond, Conds, Finding, NoMemory, OpenCase, Owed, Page, Program, Seen, Source, Style, finding_of,
+    Cond, Conds, Counted, Finding, NoMemory, OpenCase, Owed, Page, Program, Seen, Source, Style, finding_of,
     open_finding, put_faults, put_spent, put_styled,
 };
 use wy_flow::Typed;
@@ -38,6 +38,7 @@ struct Telling<'a, 'b> {
     owed: Owed<'a, 'b>,
     typed: &'a Typed,
     asked: Asked,
+    counted: &'a Option<(usize, Counted)>,
 }
 
 /// How many open conditions are told whole, and how many more by a line.
@@ -129,7 +130,7 @@ fn explain_typed(
 }
 
 // How many conditions are open, and how many spent.
-fn counted(verdicts: &[Verdict]) -> (u64, u64) {
+fn sums(verdicts: &[Verdict]) -> (u64, u64) {
     let mut open = 0u64;
     let mut spent = 0u64;
     for verdict in verdicts {
@@ -152,15 +153,20 @@ fn explain_conditions(
     requires conds { All (IsCond conds.terms) conds.list.items }
 {
     let Conds { mut terms, list } = conds;
-    let verdicts = judged(alloc, &mut terms, list.as_slice(), asked.budget)?;
-    let (open, spent) = counted(verdicts.as_slice());
+    let Judged { verdicts, counted } = judged(alloc, &mut terms, list.as_slice(), asked.budget, asked.condition)?;
+    let (open, spent) = sums(verdicts.as_slice());
     let owed = Owed {
         seen,
         core: typed.core(),
         terms: &terms,
         conds: list.as_slice(),
     };
-    let telling = Telling { owed, typed, asked };
+    let telling = Telling {
+        owed,
+        typed,
+        asked,
+        counted: &counted,
+    };
     let mut page = Page::new(alloc);
     if asked.condition > list.len() as u64 && asked.style != Style::Json {
         page.text("There is no such condition. ")?;
@@ -240,7 +246,7 @@ fn put_verdict(
     let owed = &telling.owed;
     if told < WHOLE || telling.asked.style == Style::Json {
         let is_tried = told == 0 && !is_found(&verdict);
-        let mut finding = whole_finding(alloc, owed, number, cond, verdict, telling.asked)?;
+        let mut finding = whole_finding(alloc, telling, number, cond, verdict)?;
         if is_tried {
             put_tried(alloc, owed.seen, telling.typed, cond.at, &mut finding)?;
         }
@@ -258,12 +264,12 @@ fn put_verdict(
 
 fn whole_finding(
     alloc: Global,
-    owed: &Owed,
+    telling: &Telling,
     number: usize,
     cond: &Cond,
     verdict: Verdict,
-    asked: Asked,
 ) -> Result<Finding, NoMemory> {
+    let owed = &telling.owed;
     match verdict {
         Verdict::Found(_) => shown_finding(alloc, owed, number, cond),
         Verdict::Open(leaf) => open_finding(
@@ -272,16 +278,20 @@ fn whole_finding(
             number,
             cond,
             case_of(leaf),
-            asked.style == Style::Whole,
+            telling.asked.style == Style::Whole,
         ),
         Verdict::Spent => {
             let mut finding = finding_of(alloc, owed, number, cond, "spent")?;
+            let counted = match telling.counted {
+                Some((of, counted)) if *of == number => Some(counted),
+                _ => None,
+            };
             put_spent(
                 alloc,
-                owed.seen,
-                owed.terms,
+                owed,
                 cond,
-                asked.budget,
+                telling.asked.budget,
+                counted,
                 &mut finding,
             )?;
             Ok(finding)

@@ -1,18 +1,30 @@
 //! How the search ends with each condition.
-ghost use Rattle.std.specs.Prelude.{All};
+ghost use Rattle.std.specs.Prelude.{◌≡◌, All, length};
 ghost use Rattle.wy_vc.specs.Told.{IsCond};
 
+use crate::splitting::counted;
 use std::alloc::Global;
-use wy_explain::{Cond, NoMemory, Terms};
+use wy_explain::{Cond, Counted, NoMemory, Terms};
 use wy_search::{Verdict, nothing_carried, search};
 
-/// How the search of each condition ends at a budget of leaves, in order. It takes what the searches take.
+/// How the searches end.
+#[derive(Drop)]
+pub struct Judged {
+    /// In the order of the conditions.
+    pub verdicts: Vec<Verdict>,
+    /// What was counted of one whose budget is spent, and the number of its condition, from 0.
+    pub counted: Option<(usize, Counted)>,
+}
+
+/// How the search of each condition ends at a budget of leaves, in order. It takes what the searches take. Of the condition with this
+/// number, from 1, or of the first one whose budget is spent where it is 0, the splits are counted.
 pub fn judged(
     alloc: Global,
     terms: &mut Terms,
     conds: &[Cond],
     budget: u64,
-) -> Result<Vec<Verdict>, NoMemory>
+    asked: u64,
+) -> Result<Judged, NoMemory>
     requires conds { All (IsCond terms.old) conds.now }
 {
     let mut carried = nothing_carried(alloc, terms.len());
@@ -24,5 +36,39 @@ pub fn judged(
         };
         verdicts.push(verdict)?;
     }
-    Ok(verdicts)
+    let counted = match first_spent(verdicts.as_slice(), asked) {
+        Some(number) => {
+            if number < conds.len() {
+                let counted = counted(alloc, terms, &conds[number])?;
+                Some((number, counted))
+            } else {
+                None
+            }
+        }
+        None => None,
+    };
+    Ok(Judged { verdicts, counted })
+}
+
+// The number of the first condition that isn't shown, or of the one that is asked for, where its budget is spent.
+fn first_spent(verdicts: &[Verdict], asked: u64) -> Option<usize> {
+    let mut number = 0usize;
+    for verdict in verdicts {
+        let is_meant = asked == 0 || asked == (number as u64).saturating_add(1);
+        match verdict {
+            Verdict::Found(_) => {}
+            Verdict::Open(_) => {
+                if is_meant {
+                    return None;
+                }
+            }
+            Verdict::Spent => {
+                if is_meant {
+                    return Some(number);
+                }
+            }
+        }
+        number = number.saturating_add(1);
+    }
+    None
 }

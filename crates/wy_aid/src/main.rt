@@ -9,6 +9,7 @@ mod explaining;
 mod help;
 mod judged;
 mod passes;
+mod splitting;
 mod trying;
 mod words;
 

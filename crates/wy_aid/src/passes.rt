@@ -2,7 +2,7 @@
 use std::alloc::Global;
 use wy_assign::AssignFault;
 use wy_assign::typed::assigned;
-use wy_explain::{Checker, Fault, NoMemory, Page, Pass, put_ty};
+use wy_explain::{Checker, Fault, NoMemory, Page, Pass, Program, put_ty};
 use wy_flow::{FlowFault, Typed, check};
 use wy_names::{NameFault, resolve};
 use wy_parse_front::{SourceFault, is_no_memory, offset, read, word};
@@ -102,6 +102,21 @@ impl Checker for Passes {
                     return Err(NoMemory);
                 }
                 Ok(Some(offset(fault)))
+            }
+        }
+    }
+
+    fn program(&self, alloc: Global, bytes: &[u8]) -> Result<Option<Program>, NoMemory> {
+        if bytes.len() >= u32::MAX as usize {
+            return Err(NoMemory);
+        }
+        match read(alloc, bytes) {
+            Ok(program) => Ok(Some(program)),
+            Err(fault) => {
+                if is_no_memory(fault) {
+                    return Err(NoMemory);
+                }
+                Ok(None)
             }
         }
     }

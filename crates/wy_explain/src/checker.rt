@@ -1,6 +1,6 @@
 //! Who answers questions about programs.
 use std::alloc::Global;
-use wy_explain_source::{NoMemory, Page};
+use wy_explain_source::{NoMemory, Page, Program};
 
 /// The pass that has a fault.
 #[derive(Clone, Copy, PartialEq, Eq)]
@@ -23,6 +23,9 @@ pub struct Fault {
 pub trait Checker {
     /// The place of the first fault of the text; none where it is read.
     fn unread(&self, alloc: Global, bytes: &[u8]) -> Result<Option<u32>, NoMemory>;
+
+    /// The program that the text spells; none where it isn't read.
+    fn program(&self, alloc: Global, bytes: &[u8]) -> Result<Option<Program>, NoMemory>;
 
     /// The first fault, in the order of the passes; none where no pass has one.
     fn fault(&self, alloc: Global, bytes: &[u8]) -> Result<Option<Fault>, NoMemory>;

@@ -1,17 +1,18 @@
 //! Conditions that the search leaves open.
 use crate::choosing::{Fact, all_facts, chosen, is_plain_whole, join};
 use crate::clauses::clause_owed;
-use crate::hints::{HINTS, hint_for};
+use crate::hints::{OF_LIMIT, hint_for, put_lines};
 use crate::kinds::{clause_words, owing_node, owing_span, put_kind};
 use crate::members::member_type;
 use crate::naming::Naming;
 use crate::parts::{is_equation, made_of, node_at, node_of};
 use crate::places::{Wanted, node_there};
+use crate::rewriting::rewritten;
 use crate::term_text::{Words, put_formula};
 use crate::uses::{Uses, place_of};
 use std::alloc::Global;
 use wy_core::Core;
-use wy_explain_source::{Finding, NoMemory, Page, Seen, hint, point_at};
+use wy_explain_source::{Finding, NoMemory, Page, Seen, point_at};
 use wy_term::{Cond, CondKind, Node, Terms};
 
 /// The conditions of a program, and what is looked at to tell of them.
@@ -131,10 +132,10 @@ fn put_hint(
     let decl = owed.seen.decl_at(cond.at).unwrap_or(0);
     match hint_for(alloc, owed.seen, owed.terms, cond, clause, decl)? {
         Some(number) => {
-            if number < HINTS.len() {
-                for line in HINTS[number].split('\n') {
-                    hint(alloc, finding, line)?;
-                }
+            put_lines(alloc, finding, number)?;
+            match rewritten(alloc, owed.seen, number, cond.at, clause)? {
+                Some(line) => finding.hint.push(line)?,
+                None => {}
             }
             Ok(())
         }
@@ -157,6 +158,9 @@ pub fn open_finding(
         literals,
     } = case;
     let mut finding = finding_of(alloc, owed, number, cond, ending)?;
+    if ending != "open still" && finding.hint.is_empty() {
+        put_lines(alloc, &mut finding, OF_LIMIT)?;
+    }
     if cond.goal as usize >= owed.terms.len() {
         return Ok(finding);
     }
@@ -260,8 +264,8 @@ fn goal_parts(alloc: Global, terms: &Terms, goal: u32) -> Result<Vec<u32>, NoMem
     Ok(parts)
 }
 
-// What the names in the goal and the facts are called.
-fn naming_of(
+/// What the names in the goal and the facts are called.
+pub fn naming_of(
     alloc: Global,
     owed: &Owed,
     terms: &Terms,

@@ -1,12 +1,13 @@
-//! How programs are mended whose conditions the search leaves open: the table of docs/WRITING.md.
+//! How programs are mended whose conditions the search leaves open: docs/WRITING.md has each of these texts in its table.
+use crate::kinds::is_lower_bound;
 use crate::parts::{made_of, made_of_all, node_at, node_of};
 use crate::places::{Wanted, node_there};
 use std::alloc::Global;
-use wy_explain_source::{Class, NoMemory, Role, Seen};
+use wy_explain_source::{Class, Finding, NoMemory, Role, Seen, Span, hint};
 use wy_term::{Cond, CondKind, Node, Terms};
 
 /// The hints, in the order of the table, each by its lines.
-pub const HINTS: [&str; 13] = [
+pub const HINTS: [&str; 15] = [
     "update a part in a variable of its own: not `s.items[i] = x` but `int[] items = s.items`, `items[i] = x`,\nand then a new record of all fields, as `return {items: items, size: s.size + 1}`",
     "give the branch that updates an end of its own, so that nothing has to be joined: `i = i + 1` and `continue` in it;\nunder a `switch` a `return` in each case. Two loops, one behind the other, do as well",
     "say an equation with a truth value in two clauses: not `ensures r == F` but `ensures r ==> F` and `ensures !r ==> G`,\nwhere G denies F",
@@ -20,7 +21,24 @@ pub const HINTS: [&str; 13] = [
     "say bounds before sums, in a clause of their own: `r <= |s| - |t|` and not `r + |t| <= |s|`; the lengths of rows before\ntheir elements; before `[e; n]` that `n <= 9223372036854775807`",
     "test the bare shape: `s is {int radius}` and not a type whose fields have clauses, which narrows only where it is true",
     "a `where` speaks of the values now. For the value at entry copy it before the loop, `int n = x`, and name that",
+    "let branches end by themselves (`return`, `continue`) so that nothing is joined behind them; say what matters in an `assert`\nbefore; put a part of the body into a function of its own, of which its `ensures` alone is known",
+    "a limit of the arithmetic was met: bound each variable by numbers in an `assert` just before, and divide the clause into\nclauses of fewer variables",
 ];
+
+/// The number of the hint for a budget that is spent, and of that for a limit of the arithmetic.
+pub const OF_SPENT: usize = 13;
+
+pub const OF_LIMIT: usize = 14;
+
+/// Puts a hint, line by line.
+pub fn put_lines(alloc: Global, finding: &mut Finding, number: usize) -> Result<(), NoMemory> {
+    if number < HINTS.len() {
+        for line in HINTS[number].split('\n') {
+            hint(alloc, finding, line)?;
+        }
+    }
+    Ok(())
+}
 
 /// What the terms of a case have.
 #[derive(Clone, Copy)]
@@ -64,16 +82,22 @@ pub fn hint_for(
     if is_kept(cond.kind) && has_class(seen, decl, Class::Do) {
         return Ok(Some(3));
     }
+    if cond.kind == CondKind::Keep && speaks_of_entry(seen, clause, decl) {
+        return Ok(Some(12));
+    }
     if traits.element_update && has_update_under_choice(seen, decl) {
         return Ok(Some(1));
     }
     if traits.element_update && traits.repeat {
         return Ok(Some(6));
     }
-    Ok(last_hints(traits, cond.kind))
+    if cond.kind == CondKind::Length && !is_lower_bound(terms, cond.goal) {
+        return Ok(Some(10));
+    }
+    Ok(last_hints(traits))
 }
 
-fn last_hints(traits: Traits, kind: CondKind) -> Option<usize> {
+fn last_hints(traits: Traits) -> Option<usize> {
     if traits.product {
         return Some(7);
     }
@@ -83,10 +107,7 @@ fn last_hints(traits: Traits, kind: CondKind) -> Option<usize> {
     if traits.remainder {
         return Some(9);
     }
-    match kind {
-        CondKind::Length => Some(10),
-        _ => None,
-    }
+    None
 }
 
 fn is_kept(kind: CondKind) -> bool {
@@ -216,6 +237,37 @@ fn is_record_equation(seen: &Seen, clause: Option<u32>) -> bool {
         }
     }
     false
+}
+
+// Whether the clause speaks of a parameter that the body assigns.
+fn speaks_of_entry(seen: &Seen, clause: Option<u32>, decl: usize) -> bool {
+    let whole = match clause_node(seen, clause) {
+        Some(number) => match seen.nodes.get(number) {
+            Some(node) => node.span,
+            None => return false,
+        },
+        None => return false,
+    };
+    for node in seen.nodes.all() {
+        let is_assigned = node.class == Class::Assign && node.decl == decl;
+        if is_assigned && is_spoken_of(seen, whole, decl, seen.text(node.name)) {
+            return true;
+        }
+    }
+    false
+}
+
+// Whether the name is one of a parameter, and stands in the stretch.
+fn is_spoken_of(seen: &Seen, whole: Span, decl: usize, name: &[u8]) -> bool {
+    let mut is_parameter = false;
+    let mut is_there = false;
+    for node in seen.nodes.all() {
+        if seen.text(node.name) == name {
+            is_parameter = is_parameter || (node.class == Class::Param && node.parent == decl);
+            is_there = is_there || (node.class == Class::Var && whole.holds(node.at));
+        }
+    }
+    is_parameter && is_there
 }
 
 fn has_class(seen: &Seen, decl: usize, class: Class) -> bool {

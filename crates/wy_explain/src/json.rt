@@ -1,5 +1,7 @@
 //! Findings for editors: an object of JSON each.
-use wy_explain_source::{Finding, NoMemory, Page, Source, Span, put_finding};
+use serde_json::{Value, json};
+use std::alloc::{AllocError, Global};
+use wy_explain_source::{Finding, Label, NoMemory, Page, Source, Span, put_finding};
 
 /// How findings are written.
 #[derive(Clone, Copy, PartialEq, Eq)]
@@ -22,103 +24,80 @@ pub fn put_styled(
     match style {
         Style::Short => put_finding(page, source, finding, false),
         Style::Whole => put_finding(page, source, finding, true),
-        Style::Json => put_object(page, source, finding),
+        Style::Json => {
+            let object = object_of(page.alloc(), source, finding)?;
+            let line = object.to_string(page.alloc())?;
+            page.text(line.as_str())?;
+            page.text("\n")
+        }
     }
 }
 
-fn put_object(page: &mut Page, source: &Source, finding: &Finding) -> Result<(), NoMemory> {
-    page.text("{\"file\": ")?;
-    put_string(page, source.name.as_bytes())?;
-    page.text(", ")?;
-    put_place(page, source, finding.at)?;
-    page.text(", \"end\": {")?;
-    put_place(page, source, finding.span.to)?;
-    page.text("}, \"kind\": ")?;
-    put_string(page, finding.kind.as_bytes())?;
-    page.text(", \"condition\": ")?;
-    page.number(finding.condition)?;
-    page.text(", \"ending\": ")?;
-    put_string(page, finding.ending.as_bytes())?;
-    page.text(", \"message\": ")?;
-    put_string(page, finding.message.as_slice())?;
-    page.text(", \"places\": [")?;
-    put_labels(page, source, finding)?;
-    page.text("], \"goal\": ")?;
-    put_string(page, finding.goal.as_slice())?;
-    page.text(", \"literals\": ")?;
-    put_strings(page, finding.facts.as_slice())?;
-    page.text(", \"hidden\": ")?;
-    page.number(finding.hidden)?;
-    page.text(", \"names\": ")?;
-    put_strings(page, finding.names.as_slice())?;
-    page.text(", \"hint\": ")?;
-    put_strings(page, finding.hint.as_slice())?;
-    page.text("}\n")
-}
-
-// The line and the column of an offset.
-fn put_place(page: &mut Page, source: &Source, at: u32) -> Result<(), NoMemory> {
-    page.text("\"line\": ")?;
-    page.number(source.line(at))?;
-    page.text(", \"column\": ")?;
-    page.number(source.column(at))
+fn object_of(alloc: Global, source: &Source, finding: &Finding) -> Result<Value, AllocError> {
+    json!(in alloc; {
+        "file": source.name,
+        "line": source.line(finding.at),
+        "column": source.column(finding.at),
+        "end": {"line": source.line(finding.span.to), "column": source.column(finding.span.to)},
+        "kind": finding.kind,
+        "condition": finding.condition,
+        "ending": finding.ending,
+        "message": text_of(alloc, finding.message.as_slice())?,
+        "places": places_of(alloc, source, finding)?,
+        "goal": text_of(alloc, finding.goal.as_slice())?,
+        "literals": texts_of(alloc, finding.facts.as_slice())?,
+        "hidden": finding.hidden,
+        "names": texts_of(alloc, finding.names.as_slice())?,
+        "hint": texts_of(alloc, finding.hint.as_slice())?
+    })
 }
 
 // Other places that are told, that of the clause that is owed first, each with its sentence.
-fn put_labels(page: &mut Page, source: &Source, finding: &Finding) -> Result<(), NoMemory> {
-    let mut is_first = true;
+fn places_of(
+    alloc: Global,
+    source: &Source,
+    finding: &Finding,
+) -> Result<Vec<Value>, AllocError> {
+    let mut places = Vec::new(alloc);
     for label in finding.labels.as_slice() {
-        page.text(if is_first {
-            "{\"message\": "
-        } else {
-            ", {\"message\": "
-        })?;
-        put_string(page, label.text.as_slice())?;
-        match label.span {
-            Some(span) => put_stretch(page, source, span)?,
-            None => {}
+        let place = place_of(alloc, source, label)?;
+        places.push(place)?;
+    }
+    Ok(places)
+}
+
+fn place_of(alloc: Global, source: &Source, label: &Label) -> Result<Value, AllocError> {
+    let message = text_of(alloc, label.text.as_slice())?;
+    match label.span {
+        Some(span) => json!(in alloc; {
+            "message": message,
+            "line": source.line(span.from),
+            "column": source.column(span.from),
+            "text": text_of(alloc, source.cut(span))?
+        }),
+        None => json!(in alloc; {"message": message}),
+    }
+}
+
+fn texts_of(alloc: Global, pages: &[Page]) -> Result<Vec<Value>, AllocError> {
+    let mut texts = Vec::new(alloc);
+    for page in pages {
+        let text = text_of(alloc, page.as_slice())?;
+        texts.push(Value::from(text))?;
+    }
+    Ok(texts)
+}
+
+// The text of bytes. Those of no text are told by question marks.
+fn text_of(alloc: Global, bytes: &[u8]) -> Result<String, AllocError> {
+    let mut text = String::new(alloc);
+    match str::from_utf8(bytes) {
+        Ok(whole) => text.push_str(whole)?,
+        Err(_) => {
+            for byte in bytes {
+                text.push(if byte.is_ascii() { char::from(*byte) } else { '?' })?;
+            }
         }
-        page.text("}")?;
-        is_first = false;
     }
-    Ok(())
-}
-
-fn put_stretch(page: &mut Page, source: &Source, span: Span) -> Result<(), NoMemory> {
-    page.text(", ")?;
-    put_place(page, source, span.from)?;
-    page.text(", \"text\": ")?;
-    put_string(page, source.cut(span))
-}
-
-fn put_strings(page: &mut Page, texts: &[Page]) -> Result<(), NoMemory> {
-    page.text("[")?;
-    let mut is_first = true;
-    for text in texts {
-        page.text(if is_first { "" } else { ", " })?;
-        put_string(page, text.as_slice())?;
-        is_first = false;
-    }
-    page.text("]")
-}
-
-// A string. Bytes of no text are question marks in it.
-fn put_string(page: &mut Page, bytes: &[u8]) -> Result<(), NoMemory> {
-    let is_text = str::from_utf8(bytes).is_ok();
-    page.text("\"")?;
-    for byte in bytes {
-        put_byte(page, *byte, is_text)?;
-    }
-    page.text("\"")
-}
-
-fn put_byte(page: &mut Page, byte: u8, is_text: bool) -> Result<(), NoMemory> {
-    match byte {
-        b'"' => page.text("\\\""),
-        b'\\' => page.text("\\\\"),
-        b'\n' => page.text("\\n"),
-        b'\t' => page.text("\\t"),
-        0..=31 => page.text(" "),
-        _ => page.repeat(if byte < 128 || is_text { byte } else { b'?' }, 1),
-    }
+    Ok(text)
 }

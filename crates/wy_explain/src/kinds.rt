@@ -67,8 +67,8 @@ fn part_text<'a>(seen: &Seen<'a>, node: Option<usize>, role: Role) -> &'a [u8] {
     }
 }
 
-// Whether the goal is a lower bound: a number is at most the term.
-fn is_lower_bound(terms: &Terms, goal: u32) -> bool {
+/// Whether the goal is a lower bound: a number is at most the term.
+pub fn is_lower_bound(terms: &Terms, goal: u32) -> bool {
     if goal as usize >= terms.len() {
         return false;
     }

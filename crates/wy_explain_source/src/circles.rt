@@ -1,14 +1,15 @@
-//! Types that lead back to themselves.
+//! Types and properties that lead back to themselves.
 use crate::{Class, NoMemory, Page, Seen};
 use std::alloc::Global;
 
-/// The way by which the use of a name in this declaration of a type leads back to that declaration, with no record and no array on
-/// it: the declarations, the first one last too. Nothing where there is no such way.
-pub fn type_circle(
+/// The way by which the use of a name in this declaration leads back to that declaration, by names of this class: of types with no record
+/// and no array on it, or of calls of properties. The declarations, the first one last too; nothing where there is no such way.
+pub fn circle_of(
     alloc: Global,
     seen: &Seen,
     decl: usize,
     name: &[u8],
+    class: Class,
 ) -> Result<Vec<usize>, NoMemory> {
     let mut reached: Vec<(usize, usize)> = Vec::new(alloc);
     let start = match seen.decl_named(name) {
@@ -25,7 +26,7 @@ pub fn type_circle(
         if here == decl {
             return way(alloc, decl, reached.as_slice(), next);
         }
-        put_uses(seen, &mut reached, here, next)?;
+        put_uses(seen, &mut reached, here, next, class)?;
         next = next.saturating_add(1);
     }
     Ok(Vec::new(alloc))
@@ -54,16 +55,17 @@ fn way(
     Ok(back)
 }
 
-// Puts those declarations behind the others that this one mentions outside of records and arrays.
+// Puts those declarations behind the others that this one mentions by names of this class, types outside of records and arrays.
 fn put_uses(
     seen: &Seen,
     reached: &mut Vec<(usize, usize)>,
     decl: usize,
     from: usize,
+    class: Class,
 ) -> Result<(), NoMemory> {
     let mut number = 0usize;
     for node in seen.nodes.all() {
-        if node.decl == decl && node.class == Class::NamedType && is_bare(seen, number) {
+        if node.decl == decl && node.class == class && is_bare(seen, number) {
             match seen.decl_named(seen.text(node.name)) {
                 Some(other) => {
                     if !reached.iter().any(|step| step.0 == other) {

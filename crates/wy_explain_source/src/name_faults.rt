@@ -1,5 +1,5 @@
 //! Faults of names, calls and sizes.
-use crate::circles::{put_circle, type_circle};
+use crate::circles::{circle_of, put_circle};
 use crate::nearest::nearest;
 use crate::{Class, Finding, NoMemory, Node, Page, Role, Seen, Span, hint, point, point_at};
 use std::alloc::Global;
@@ -198,7 +198,13 @@ fn twice_told(
 
 fn bare_recursion(alloc: Global, seen: &Seen, finding: &mut Finding) -> Result<(), NoMemory> {
     let decl = seen.decl_at(finding.at).unwrap_or(0);
-    let circle = type_circle(alloc, seen, decl, seen.text(finding.span))?;
+    let circle = circle_of(
+        alloc,
+        seen,
+        decl,
+        seen.text(finding.span),
+        Class::NamedType,
+    )?;
     if circle.is_empty() {
         return finding.message.text(
             "A test in a clause of a type leads back to that type: a clause may not rest on the type that it is about.",
@@ -219,7 +225,14 @@ fn property_loop(alloc: Global, seen: &Seen, finding: &mut Finding) -> Result<()
     finding.message.code(seen.text(finding.span))?;
     finding
         .message
-        .text(" lead to the same property again, without end.")?;
+        .text(" lead to the same property again, without end")?;
+    let decl = seen.decl_at(finding.at).unwrap_or(0);
+    let circle = circle_of(alloc, seen, decl, seen.text(finding.span), Class::Call)?;
+    if !circle.is_empty() {
+        finding.message.text(": ")?;
+        put_circle(seen, &mut finding.message, circle.as_slice())?;
+    }
+    finding.message.text(".")?;
     hint(
         alloc,
         finding,
