@@ -7,8 +7,8 @@ use crate::passes::{Passes, Refused, typed_program};
 use crate::trying::put_tried;
 use std::alloc::Global;
 use wy_explain::{
-    Cond, Conds, Counted, Finding, NoMemory, OpenCase, Owed, Page, Program, Seen, Source, Style, finding_of,
-    open_finding, put_faults, put_spent, put_styled,
+    Cond, Conds, Counted, Finding, NoMemory, OpenCase, Owed, Page, Program, Seen, Source, Style,
+    finding_of, open_finding, put_faults, put_spent, put_styled,
 };
 use wy_flow::Typed;
 use wy_parse_front::read;
@@ -153,7 +153,13 @@ fn explain_conditions(
     requires conds { All (IsCond conds.terms) conds.list.items }
 {
     let Conds { mut terms, list } = conds;
-    let Judged { verdicts, counted } = judged(alloc, &mut terms, list.as_slice(), asked.budget, asked.condition)?;
+    let Judged { verdicts, counted } = judged(
+        alloc,
+        &mut terms,
+        list.as_slice(),
+        asked.budget,
+        asked.condition,
+    )?;
     let (open, spent) = sums(verdicts.as_slice());
     let owed = Owed {
         seen,

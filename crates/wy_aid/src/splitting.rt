@@ -1,7 +1,7 @@
 //! On what a search splits whose budget is spent.
 ghost use Rattle.std.specs.Prelude.{◌≡◌, ◌<◌, All, length, OnOk};
-ghost use Rattle.wy_search.specs.wy_facts.Membership.{AreTypesBelow};
-ghost use Rattle.wy_search.specs.wy_facts.Seen.{Stays};
+ghost use Rattle.wy_search.specs.wy_search_bounds.wy_facts.Membership.{AreTypesBelow};
+ghost use Rattle.wy_search.specs.wy_search_bounds.wy_facts.Seen.{Stays};
 ghost use Rattle.wy_search.specs.wy_search_bounds.Known.{AreKnown};
 ghost use Rattle.wy_search.specs.wy_search_facts.Seen.{IsSpot};
 

@@ -95,7 +95,15 @@ fn put_callers(
         match tried_on(alloc, seen, typed, last)? {
             Some(ProbeEnd::Found { args, kind, at, .. }) => {
                 if at == finding.at {
-                    put_fault(alloc, seen, name_of(seen, last), args.as_slice(), kind, at, finding)?;
+                    put_fault(
+                        alloc,
+                        seen,
+                        name_of(seen, last),
+                        args.as_slice(),
+                        kind,
+                        at,
+                        finding,
+                    )?;
                     return Ok(true);
                 }
             }

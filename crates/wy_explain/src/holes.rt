@@ -116,8 +116,17 @@ fn hole_at(seen: &Seen, fault: Fault, number: usize, node: Node) -> Option<Hole>
         from: node.at.min(node.span.from),
         to: seen.end_of(number),
     };
-    let may_skip = node.class == Class::CallStmt || node.class == Class::Assign || node.class == Class::Declare;
-    holed(span, if are_names && may_skip { "skip" } else { "fail" })
+    let may_skip = node.class == Class::CallStmt
+        || node.class == Class::Assign
+        || node.class == Class::Declare;
+    holed(
+        span,
+        if are_names && may_skip {
+            "skip"
+        } else {
+            "fail"
+        },
+    )
 }
 
 fn holed(span: Span, filler: &'static str) -> Option<Hole> {
@@ -161,7 +170,9 @@ fn declaration_lines(seen: &Seen, fault: Fault) -> Option<Hole> {
                 to = to.min(here);
             }
         }
-        here = here.saturating_add(Span::of(0, line.len()).to).saturating_add(1);
+        here = here
+            .saturating_add(Span::of(0, line.len()).to)
+            .saturating_add(1);
     }
     holed(Span { from, to }, "")
 }

@@ -53,11 +53,7 @@ fn object_of(alloc: Global, source: &Source, finding: &Finding) -> Result<Value,
 }
 
 // Other places that are told, that of the clause that is owed first, each with its sentence.
-fn places_of(
-    alloc: Global,
-    source: &Source,
-    finding: &Finding,
-) -> Result<Vec<Value>, AllocError> {
+fn places_of(alloc: Global, source: &Source, finding: &Finding) -> Result<Vec<Value>, AllocError> {
     let mut places = Vec::new(alloc);
     for label in finding.labels.as_slice() {
         let place = place_of(alloc, source, label)?;
@@ -95,7 +91,11 @@ fn text_of(alloc: Global, bytes: &[u8]) -> Result<String, AllocError> {
         Ok(whole) => text.push_str(whole)?,
         Err(_) => {
             for byte in bytes {
-                text.push(if byte.is_ascii() { char::from(*byte) } else { '?' })?;
+                text.push(if byte.is_ascii() {
+                    char::from(*byte)
+                } else {
+                    '?'
+                })?;
             }
         }
     }

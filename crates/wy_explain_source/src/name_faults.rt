@@ -198,13 +198,7 @@ fn twice_told(
 
 fn bare_recursion(alloc: Global, seen: &Seen, finding: &mut Finding) -> Result<(), NoMemory> {
     let decl = seen.decl_at(finding.at).unwrap_or(0);
-    let circle = circle_of(
-        alloc,
-        seen,
-        decl,
-        seen.text(finding.span),
-        Class::NamedType,
-    )?;
+    let circle = circle_of(alloc, seen, decl, seen.text(finding.span), Class::NamedType)?;
     if circle.is_empty() {
         return finding.message.text(
             "A test in a clause of a type leads back to that type: a clause may not rest on the type that it is about.",
