@@ -1,7 +1,7 @@
 """Tries `explain` and `help`: `explanations.py WY_AID WY`.
 
 Each source of examples/refused has its explanation beside it, in a file of the same name that ends in `.txt`, and its objects of JSON tell
-the same place and kind; they and two large sources have every word of a fault. Those of examples/unshown take at most 40 lines of at most
+the same place and kind; they and two large sources have every word of a fault. Those of examples/unshown take at most 30 lines of at most
 100 columns, name the clause that README.md there has, and take at most 1.3 of the time of `check` and a second each. Sources that are changed
 at random, by a fixed seed, are explained without a crash, and with the status and the place that `check` has. docs/WRITING.md has each hint.
 The last line tells how many agreed. Where a program doesn't stand, nothing is tried.
@@ -92,7 +92,7 @@ def short(programs):
         (wanted, _, line), checked = timed(programs[1], ["check", name, "none", *options], folder)
         (status, out, err), took = timed(programs[0], ["explain", name, *options], folder)
         lines = out.splitlines()
-        small = len(lines) <= 40 and all(len(it) <= 100 for it in lines) and took <= 1.3 * checked + 1
+        small = len(lines) <= 30 and all(len(it) <= 100 for it in lines) and took <= 1.3 * checked + 1
         yield name, (status, err) == (wanted, "") and small and (status == 0 or place(out) == place(line))
         _, text, _ = called(programs[0], ["explain", name, "--json", *options], folder)
         places = json.loads(text.splitlines()[0])["places"] if status else []

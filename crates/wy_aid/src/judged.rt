@@ -2,7 +2,7 @@
 ghost use Rattle.std.specs.Prelude.{◌≡◌, All, length};
 ghost use Rattle.wy_vc.specs.Told.{IsCond};
 
-use crate::splitting::counted;
+use crate::splitting::splits_of;
 use std::alloc::Global;
 use wy_explain::{Cond, Counted, NoMemory, Terms};
 use wy_search::{Verdict, nothing_carried, search};
@@ -39,7 +39,7 @@ pub fn judged(
     let counted = match first_spent(verdicts.as_slice(), asked) {
         Some(number) => {
             if number < conds.len() {
-                let counted = counted(alloc, terms, &conds[number])?;
+                let counted = splits_of(alloc, terms, &conds[number])?;
                 Some((number, counted))
             } else {
                 None

@@ -24,7 +24,7 @@ struct Tally {
 }
 
 /// Counts the splits of the search of a condition in its first 200 cases. There are as many terms as before behind it.
-pub fn counted(alloc: Global, terms: &mut Terms, cond: &Cond) -> Result<Counted, NoMemory>
+pub fn splits_of(alloc: Global, terms: &mut Terms, cond: &Cond) -> Result<Counted, NoMemory>
     requires hyps { All (λ h. h < length terms.old) cond.now.hyps.items }
     requires goal { cond.now.goal < length terms.old }
     requires types { AreTypesBelow (length terms.old) cond.now }
@@ -60,7 +60,6 @@ pub fn counted(alloc: Global, terms: &mut Terms, cond: &Cond) -> Result<Counted,
 }
 
 // Counts the splits of a node and of those below it.
-#[cycle(count)]
 fn count(
     terms: &mut Terms,
     known: &mut KnownForms,

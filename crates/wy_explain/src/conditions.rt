@@ -54,7 +54,7 @@ pub fn finding_of(
         owed.terms,
         cond.goal,
     )?;
-    put_type_asked(&mut finding.message, owed, number, cond)?;
+    put_type_asked(alloc, &mut finding.message, owed, number, cond)?;
     let clause = clause_of(alloc, owed, number, cond)?;
     match clause {
         Some(at) => put_clause(alloc, owed.seen, &mut finding, cond.kind, at)?,
@@ -66,6 +66,7 @@ pub fn finding_of(
 
 // The type that a value has to be of, where that is plain.
 fn put_type_asked(
+    alloc: Global,
     page: &mut Page,
     owed: &Owed,
     number: usize,
@@ -74,7 +75,7 @@ fn put_type_asked(
     if cond.kind != CondKind::Member {
         return Ok(());
     }
-    match member_type(owed.seen, owed.conds, number) {
+    match member_type(alloc, owed.seen, owed.conds, number)? {
         Some((ty, _)) => {
             page.text(" That type is ")?;
             page.code(owed.seen.text(ty.span))?;
@@ -92,7 +93,7 @@ fn clause_of(
     cond: &Cond,
 ) -> Result<Option<u32>, NoMemory> {
     if cond.kind == CondKind::Member {
-        return match member_type(owed.seen, owed.conds, number) {
+        return match member_type(alloc, owed.seen, owed.conds, number)? {
             Some((_, at)) => Ok(Some(at)),
             None => Ok(None),
         };
@@ -184,7 +185,8 @@ pub fn open_finding(
     for fact in facts.as_slice() {
         let mut page = Page::new(alloc);
         put_formula(&mut page, words, fact.atom, fact.holds)?;
-        let is_new = !is_among(finding.facts.as_slice(), page.as_slice());
+        let says_nothing = page.as_slice().ends_with(b"| true }".as_slice());
+        let is_new = !says_nothing && !is_among(finding.facts.as_slice(), page.as_slice());
         if all || (is_new && finding.facts.len() < MOST) {
             finding.facts.push(page)?;
         } else {
@@ -205,7 +207,7 @@ fn is_among(texts: &[Page], text: &[u8]) -> bool {
 }
 
 /// How many facts are shown unless all are asked for.
-const MOST: usize = 12;
+const MOST: usize = 8;
 
 // The goal; of several parts those that aren't kinds and bounds of `int`, unless all are asked for.
 fn put_goal(

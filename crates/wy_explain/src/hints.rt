@@ -51,6 +51,8 @@ struct Traits {
     remainder: bool,
     repeat: bool,
     nested_get: bool,
+    nested_field: bool,
+    record_equation: bool,
 }
 
 /// The number of the hint that fits the condition, if one does.
@@ -73,7 +75,7 @@ pub fn hint_for(
     if cond.kind == CondKind::Ensures && is_record_equation(seen, clause) {
         return Ok(Some(4));
     }
-    if traits.field_update && traits.element_update {
+    if traits.nested_field || (traits.field_update && traits.element_update) {
         return Ok(Some(0));
     }
     if traits.nested_update && traits.nested_get {
@@ -91,7 +93,9 @@ pub fn hint_for(
     if traits.element_update && traits.repeat {
         return Ok(Some(6));
     }
-    if cond.kind == CondKind::Length && !is_lower_bound(terms, cond.goal) {
+    let is_bound = cond.kind == CondKind::Length
+        || (cond.kind == CondKind::Index && is_in_contract(seen, cond.at));
+    if is_bound && !is_lower_bound(terms, cond.goal) {
         return Ok(Some(10));
     }
     Ok(last_hints(traits))
@@ -106,6 +110,9 @@ fn last_hints(traits: Traits) -> Option<usize> {
     }
     if traits.remainder {
         return Some(9);
+    }
+    if traits.record_equation {
+        return Some(4);
     }
     None
 }
@@ -125,6 +132,8 @@ fn traits_of(alloc: Global, terms: &Terms, cond: &Cond) -> Result<Traits, NoMemo
         remainder: false,
         repeat: false,
         nested_get: false,
+        nested_field: false,
+        record_equation: false,
     };
     let marks = made_of(alloc, terms, cond.goal)?;
     note_all(terms, marks.as_slice(), &mut traits);
@@ -150,7 +159,17 @@ fn note_all(terms: &Terms, marks: &[bool], traits: &mut Traits) {
 
 fn note(terms: &Terms, node: &Node, traits: &mut Traits) {
     match node {
-        Node::SetField(_, _, _) => traits.field_update = true,
+        Node::SetField(_, _, value) => {
+            traits.field_update = true;
+            if matches!(node_of(terms, *value), Some(Node::SetField(_, _, _))) {
+                traits.nested_field = true;
+            }
+        }
+        Node::Equal(v, w) => {
+            if is_record(terms, *v) || is_record(terms, *w) {
+                traits.record_equation = true;
+            }
+        }
         Node::Update(_, _, value) => {
             traits.element_update = true;
             if is_update(terms, *value) {
@@ -184,6 +203,10 @@ fn note(terms: &Terms, node: &Node, traits: &mut Traits) {
 
 fn is_update(terms: &Terms, term: u32) -> bool {
     matches!(node_of(terms, term), Some(Node::Update(_, _, _)))
+}
+
+fn is_record(terms: &Terms, term: u32) -> bool {
+    matches!(node_of(terms, term), Some(Node::Record(_)))
 }
 
 fn is_number(terms: &Terms, term: u32) -> bool {
@@ -237,6 +260,14 @@ fn is_record_equation(seen: &Seen, clause: Option<u32>) -> bool {
         }
     }
     false
+}
+
+// Whether the place is one of a contract.
+fn is_in_contract(seen: &Seen, at: u32) -> bool {
+    match node_there(seen, at, Wanted::Expr) {
+        Some(number) => seen.stmt_of(number).is_none(),
+        None => false,
+    }
 }
 
 // Whether the clause speaks of a parameter that the body assigns.

@@ -1,22 +1,43 @@
 //! Which type a value has to be of.
 use crate::places::{Wanted, node_there};
-use wy_explain_source::{Class, Node, Role, Seen};
+use std::alloc::Global;
+use wy_explain_source::{Class, NoMemory, Node, Role, Seen, Span};
 use wy_term::{Cond, CondKind};
 
 /// The type that a member condition asks for, as it is written, with the place of its first clause; nothing where that isn't plain.
-pub fn member_type(seen: &Seen, conds: &[Cond], number: usize) -> Option<(Node, u32)> {
-    let cond = conds.get(number)?;
-    let stmt = node_there(seen, cond.at, Wanted::Caller)?;
-    let node = seen.nodes.get(stmt)?;
-    match node.class {
-        Class::Return => clause_of(seen, seen.result_type(node.decl)?),
-        Class::Declare => clause_of(seen, seen.child(stmt, Role::Type)?),
-        Class::Assign => clause_of(seen, seen.declared(node.decl, seen.text(node.name))?),
+pub fn member_type(
+    alloc: Global,
+    seen: &Seen,
+    conds: &[Cond],
+    number: usize,
+) -> Result<Option<(Node, u32)>, NoMemory> {
+    let cond = match conds.get(number) {
+        Some(cond) => cond,
+        None => return Ok(None),
+    };
+    let stmt = match node_there(seen, cond.at, Wanted::Caller) {
+        Some(stmt) => stmt,
+        None => return Ok(None),
+    };
+    let node = match seen.nodes.get(stmt) {
+        Some(node) => node,
+        None => return Ok(None),
+    };
+    let ty = match node.class {
+        Class::Return => seen.result_type(node.decl),
+        Class::Declare => seen.child(stmt, Role::Type),
+        Class::Assign => seen.declared(node.decl, seen.text(node.name)),
         Class::Call | Class::CallStmt => {
-            let callee = seen.decl_named(seen.text(node.name))?;
-            argument_clause(seen, callee, earlier(conds, number))
+            return match seen.decl_named(seen.text(node.name)) {
+                Some(callee) => argument_clause(alloc, seen, callee, earlier(conds, number)),
+                None => Ok(None),
+            };
         }
         _ => None,
+    };
+    match ty {
+        Some(ty) => clause_of(alloc, seen, ty),
+        None => Ok(None),
     }
 }
 
@@ -38,42 +59,68 @@ fn earlier(conds: &[Cond], number: usize) -> usize {
 }
 
 // The first clause of the type of the parameter that comes with this number among those with clauses.
-fn argument_clause(seen: &Seen, callee: usize, place: usize) -> Option<(Node, u32)> {
+fn argument_clause(
+    alloc: Global,
+    seen: &Seen,
+    callee: usize,
+    place: usize,
+) -> Result<Option<(Node, u32)>, NoMemory> {
     let mut passed = 0usize;
     let mut number = 0usize;
     for node in seen.nodes.all() {
         if node.parent == callee && node.class == Class::Param {
             let clause = match seen.child(number, Role::Type) {
-                Some(ty) => clause_of(seen, ty),
+                Some(ty) => clause_of(alloc, seen, ty)?,
                 None => None,
             };
             if clause.is_some() {
                 if passed == place {
-                    return clause;
+                    return Ok(clause);
                 }
                 passed = passed.saturating_add(1);
             }
         }
         number = number.saturating_add(1);
     }
-    None
+    Ok(None)
 }
 
-// The first clause of a type that is a name with clauses, or of the first such name that is mentioned in it.
-fn clause_of(seen: &Seen, ty: Node) -> Option<(Node, u32)> {
+// The first clause of the types that are mentioned in a type, and of those that they mention.
+fn clause_of(alloc: Global, seen: &Seen, ty: Node) -> Result<Option<(Node, u32)>, NoMemory> {
+    let mut reached: Vec<usize> = Vec::new(alloc);
+    put_mentioned(seen, ty.span, &mut reached)?;
+    let mut next = 0usize;
+    for _ in 0..4096 {
+        let alias = match reached.get(next) {
+            Some(alias) => *alias,
+            None => break,
+        };
+        match seen.child(alias, Role::Where) {
+            Some(clause) => return Ok(Some((ty, clause.at))),
+            None => {}
+        }
+        match seen.nodes.get(alias) {
+            Some(node) => put_mentioned(seen, node.span, &mut reached)?,
+            None => {}
+        }
+        next = next.saturating_add(1);
+    }
+    Ok(None)
+}
+
+// Puts the declarations of the types that a stretch mentions behind the others, each once.
+fn put_mentioned(seen: &Seen, span: Span, reached: &mut Vec<usize>) -> Result<(), NoMemory> {
     for node in seen.nodes.all() {
-        let is_inside = node.class == Class::NamedType
-            && node.at >= ty.span.from
-            && node.at < ty.span.to;
-        if is_inside {
+        if node.class == Class::NamedType && span.holds(node.at) {
             match seen.decl_named(seen.text(node.name)) {
-                Some(alias) => match seen.child(alias, Role::Where) {
-                    Some(clause) => return Some((ty, clause.at)),
-                    None => {}
-                },
+                Some(alias) => {
+                    if !reached.iter().any(|other| *other == alias) {
+                        reached.push(alias)?;
+                    }
+                }
                 None => {}
             }
         }
     }
-    None
+    Ok(())
 }

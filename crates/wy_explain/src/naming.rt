@@ -120,7 +120,7 @@ impl Naming {
     ) -> Result<(), NoMemory> {
         let mut shown = Page::new(alloc);
         shown.bytes(word)?;
-        if is_entry(seen, decl, word, number) {
+        if is_entry(seen, decl, word, number) || is_result(seen, decl, word) {
             return self.put(alloc, word, number, false, shown, b"".as_slice(), 0);
         }
         match origin(seen, decl, word, place) {
@@ -213,6 +213,16 @@ fn is_entry(seen: &Seen, decl: usize, word: &[u8], number: u128) -> bool {
     false
 }
 
+// Whether the name is that of the result, in a clause.
+fn is_result(seen: &Seen, decl: usize, word: &[u8]) -> bool {
+    for node in seen.nodes.all() {
+        if node.class == Class::Output && node.parent == decl && seen.text(node.name) == word {
+            return true;
+        }
+    }
+    false
+}
+
 // Where a variable got its last value before the place, with words for it, behind which the line stands.
 fn origin(seen: &Seen, decl: usize, word: &[u8], place: u32) -> Option<(Node, &'static [u8])> {
     let mut found = None;
@@ -249,7 +259,7 @@ fn value_given(
             {
                 return Some((
                     node.at,
-                    b": the value at the test of a loop, in the turn that is looked at or behind the last one, line ".as_slice(),
+                    b": the value where a test is made by the loop of line ".as_slice(),
                 ));
             }
             None

@@ -320,18 +320,7 @@ fn formula_pieces(
     };
     match node {
         Node::AtMost(s, t) => at_most(alloc, words, *s, *t, holds, around),
-        Node::Equal(v, w) => operation(
-            alloc,
-            if holds {
-                b" == ".as_slice()
-            } else {
-                b" != ".as_slice()
-            },
-            (*v, SUM),
-            (*w, SUM),
-            LOGIC,
-            around,
-        ),
+        Node::Equal(v, w) => compared(alloc, words, *v, *w, holds, around),
         Node::Kind(v, kind) => kind_pieces(alloc, *v, kind, holds),
         Node::In(v, number) => in_pieces(alloc, words, *v, *number, holds),
         Node::Not(inner) => {
@@ -390,19 +379,36 @@ fn equation(
     around: u8,
 ) -> Result<Vec<Piece>, NoMemory> {
     match sides(words.terms, parts) {
-        Some((s, t)) => operation(
-            alloc,
-            if is_equal {
-                b" == ".as_slice()
-            } else {
-                b" != ".as_slice()
-            },
-            (s, SUM),
-            (t, SUM),
-            LOGIC,
-            around,
-        ),
+        Some((s, t)) => compared(alloc, words, s, t, is_equal, around),
         None => Ok(Vec::new(alloc)),
+    }
+}
+
+// `s == t` or `s != t`. A constant stands right.
+fn compared(
+    alloc: Global,
+    words: Words,
+    s: u32,
+    t: u32,
+    is_equal: bool,
+    around: u8,
+) -> Result<Vec<Piece>, NoMemory> {
+    let sign = if is_equal {
+        b" == ".as_slice()
+    } else {
+        b" != ".as_slice()
+    };
+    if is_constant(words.terms, s) && !is_constant(words.terms, t) {
+        return operation(alloc, sign, (t, SUM), (s, SUM), LOGIC, around);
+    }
+    operation(alloc, sign, (s, SUM), (t, SUM), LOGIC, around)
+}
+
+fn is_constant(terms: &Terms, term: u32) -> bool {
+    match node_of(terms, term) {
+        Some(Node::Number(_) | Node::Null | Node::Bool(_)) => true,
+        Some(Node::Int(number)) => matches!(node_of(terms, *number), Some(Node::Number(_))),
+        _ => false,
     }
 }
 
