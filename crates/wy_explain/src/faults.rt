@@ -1,6 +1,6 @@
 //! Faults of a source, pass by pass.
 use crate::checker::{Checker, Fault, Pass};
-use crate::holes::fill_hole;
+use crate::holes::{Hole, fill, hole_for};
 use crate::json::{Style, put_styled};
 use crate::text_faults::text_fault;
 use crate::type_faults::type_fault;
@@ -21,34 +21,40 @@ pub fn put_faults<C: Checker>(
     style: Style,
 ) -> Result<(), NoMemory> {
     let mut left: Vec<u8> = Vec::from_slice(alloc, seen.source.bytes)?;
+    let mut last: Option<u32> = None;
     for _ in 0..MOST {
         let fault = match checker.fault(alloc, left.as_slice())? {
             Some(fault) => fault,
             None => break,
         };
-        if fault.pass != pass {
+        if fault.pass != pass || last == Some(fault.at) {
             break;
         }
-        let finding = finding_in(alloc, seen.source.name, left.as_slice(), checker, fault)?;
+        last = Some(fault.at);
+        let name = seen.source.name;
+        let (finding, hole) = told(alloc, name, left.as_slice(), checker, fault)?;
         put_styled(page, &seen.source, &finding, style)?;
-        if !fill_hole(seen, left.as_mut_slice(), fault) {
-            break;
+        match hole {
+            Some(hole) => fill(left.as_mut_slice(), hole),
+            None => break,
         }
     }
     Ok(())
 }
 
-// What is told of the first fault of these bytes.
-fn finding_in<C: Checker>(
+// What is told of the first fault of these bytes, and what is left out then.
+fn told<C: Checker>(
     alloc: Global,
     name: &str,
     bytes: &[u8],
     checker: &C,
     fault: Fault,
-) -> Result<Finding, NoMemory> {
+) -> Result<(Finding, Option<Hole>), NoMemory> {
     let program = checker.program(alloc, bytes)?;
     let seen = Seen::of(alloc, Source { name, bytes }, program.as_ref())?;
-    finding_of(alloc, &seen, checker, fault)
+    let finding = finding_of(alloc, &seen, checker, fault)?;
+    let hole = hole_for(&seen, fault);
+    Ok((finding, hole))
 }
 
 fn finding_of<C: Checker>(

@@ -8,32 +8,26 @@ use wy_explain_source::{Class, Node, Role, Seen, Span};
 
 /// A stretch, and what stands in its place, with spaces behind.
 #[derive(Clone, Copy)]
-struct Hole {
+pub struct Hole {
     span: Span,
     filler: &'static str,
 }
 
-/// Leaves out what has the fault; whether that is done.
-pub fn fill_hole(seen: &Seen, left: &mut [u8], fault: Fault) -> bool {
+/// What is left out because it has the fault; nothing where that can't be.
+pub fn hole_for(seen: &Seen, fault: Fault) -> Option<Hole> {
     let hole = if fault.pass == Pass::Text {
-        declaration_lines(seen, fault)
+        declaration_lines(seen, fault)?
     } else {
-        hole_of(seen, fault)
+        hole_of(seen, fault)?
     };
-    match hole {
-        Some(hole) => {
-            if (hole.span.to.saturating_sub(hole.span.from) as usize) < hole.filler.len() {
-                return false;
-            }
-            fill(left, hole);
-            true
-        }
-        None => false,
+    if (hole.span.to.saturating_sub(hole.span.from) as usize) < hole.filler.len() {
+        return None;
     }
+    Some(hole)
 }
 
-// Puts a filler and spaces in the place of a stretch. Line ends stay where there is no filler.
-fn fill(left: &mut [u8], hole: Hole) {
+/// Puts the filler and spaces in the place of the stretch. Line ends stay where there is no filler.
+pub fn fill(left: &mut [u8], hole: Hole) {
     let filler = hole.filler.as_bytes();
     let mut offset = 0u32;
     for number in 0..left.len() {
