@@ -52,7 +52,10 @@ pub fn put_spent(
         None => {}
     }
     put_choices(alloc, owed.seen, cond.at, finding)?;
-    put_lines(alloc, finding, OF_SPENT)
+    if finding.hint.is_empty() {
+        put_lines(alloc, finding, OF_SPENT)?;
+    }
+    Ok(())
 }
 
 // On which atoms the search splits most.
