@@ -17,6 +17,15 @@ pub enum Refused {
 
 /// The program that the bytes spell with its flow types, where no pass has a fault. They are fewer than 2^32.
 pub fn typed_program(alloc: Global, bytes: &[u8]) -> Result<Typed, Refused> {
+    let typed = checked_program(alloc, bytes)?;
+    match assigned(alloc, &typed) {
+        Ok(()) => Ok(typed),
+        Err(fault) => Err(of_paths(fault)),
+    }
+}
+
+// The same up to its flow types: whether each use follows an assignment isn't asked.
+fn checked_program(alloc: Global, bytes: &[u8]) -> Result<Typed, Refused> {
     if bytes.len() >= u32::MAX as usize {
         return Err(Refused::NoMemory);
     }
@@ -28,13 +37,9 @@ pub fn typed_program(alloc: Global, bytes: &[u8]) -> Result<Typed, Refused> {
         Ok(core) => core,
         Err(fault) => return Err(of_names(fault)),
     };
-    let typed = match check(alloc, core) {
-        Ok(typed) => typed,
-        Err(fault) => return Err(of_types(fault)),
-    };
-    match assigned(alloc, &typed) {
-        Ok(()) => Ok(typed),
-        Err(fault) => Err(of_paths(fault)),
+    match check(alloc, core) {
+        Ok(typed) => Ok(typed),
+        Err(fault) => Err(of_types(fault)),
     }
 }
 
@@ -135,7 +140,7 @@ impl Checker for Passes {
         bytes: &[u8],
         behind: usize,
     ) -> Result<Option<Page>, NoMemory> {
-        match typed_program(alloc, bytes) {
+        match checked_program(alloc, bytes) {
             Ok(typed) => type_of(alloc, &typed, behind),
             Err(Refused::Fault(_)) => Ok(None),
             Err(Refused::NoMemory) => Err(NoMemory),

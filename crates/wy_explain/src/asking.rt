@@ -3,7 +3,7 @@
 //! The program that is asked has every declaration without its body and clauses, and behind them the one that holds the point: up
 //! to the point as it is written, and then statements that ask, the last of which is `assert (E) is any`. Its flow types then
 //! have the type of E at that point.
-use crate::checker::Checker;
+use crate::checker::{Checker, Pass};
 use std::alloc::Global;
 use wy_explain_source::{Class, NoMemory, Node, Page, Role, Seen, Span};
 
@@ -43,7 +43,7 @@ pub fn type_at<C: Checker>(
     checker.type_before(alloc, asked.page.as_slice(), asked.behind.saturating_add(1))
 }
 
-/// Whether the checker takes a program with these statements at the spot.
+/// Whether the checker takes a program with these statements at the spot, where no path is asked for values.
 pub fn is_taken<C: Checker>(
     alloc: Global,
     seen: &Seen,
@@ -52,8 +52,10 @@ pub fn is_taken<C: Checker>(
     lines: &[Page],
 ) -> Result<bool, NoMemory> {
     let asked = made(alloc, seen, spot, lines, b"skip")?;
-    let fault = checker.fault(alloc, asked.page.as_slice())?;
-    Ok(fault.is_none())
+    match checker.fault(alloc, asked.page.as_slice())? {
+        Some(fault) => Ok(fault.pass == Pass::Paths),
+        None => Ok(true),
+    }
 }
 
 fn made(
