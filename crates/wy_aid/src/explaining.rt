@@ -2,7 +2,7 @@
 ghost use Rattle.std.specs.Prelude.{All};
 ghost use Rattle.wy_vc.specs.Told.{IsCond};
 
-use crate::judged::{Judged, judged};
+use crate::judged::{Ended, judged};
 use crate::passes::{Passes, Refused, typed_program};
 use crate::trying::put_tried;
 use std::alloc::Global;
@@ -153,7 +153,7 @@ fn explain_conditions(
     requires conds { All (IsCond conds.terms) conds.list.items }
 {
     let Conds { mut terms, list } = conds;
-    let Judged { verdicts, counted } = judged(
+    let Ended { verdicts, counted } = judged(
         alloc,
         &mut terms,
         list.as_slice(),

@@ -9,7 +9,7 @@ use wy_search::{Verdict, nothing_carried, search};
 
 /// How the searches end.
 #[derive(Drop)]
-pub struct Judged {
+pub struct Ended {
     /// In the order of the conditions.
     pub verdicts: Vec<Verdict>,
     /// What was counted of one whose budget is spent, and the number of its condition, from 0.
@@ -24,7 +24,7 @@ pub fn judged(
     conds: &[Cond],
     budget: u64,
     asked: u64,
-) -> Result<Judged, NoMemory>
+) -> Result<Ended, NoMemory>
     requires conds { All (IsCond terms.old) conds.now }
 {
     let mut carried = nothing_carried(alloc, terms.len());
@@ -47,7 +47,7 @@ pub fn judged(
         }
         None => None,
     };
-    Ok(Judged { verdicts, counted })
+    Ok(Ended { verdicts, counted })
 }
 
 // The number of the first condition that isn't shown, or of the one that is asked for, where its budget is spent.
