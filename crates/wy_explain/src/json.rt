@@ -34,11 +34,12 @@ pub fn put_styled(
 }
 
 fn object_of(alloc: Global, source: &Source, finding: &Finding) -> Result<Value, AllocError> {
+    let end = finding.span.to.max(finding.at);
     json!(in alloc; {
         "file": source.name,
         "line": source.line(finding.at),
         "column": source.column(finding.at),
-        "end": {"line": source.line(finding.span.to), "column": source.column(finding.span.to)},
+        "end": {"line": source.line(end), "column": source.column(end)},
         "kind": finding.kind,
         "condition": finding.condition,
         "ending": finding.ending,
