@@ -86,7 +86,7 @@ def timed(program, words, folder):
 
 def short(programs):
     """Each example that isn't shown is explained in few lines, with the clause that is owed, in time."""
-    folder, options, owed = f"{HERE}/examples/unshown", ["--budget", "1000"], dict(clauses())
+    folder, options, owed = f"{HERE}/examples/unshown", ["--budget", "200"], dict(clauses())
     for path in sorted(glob.glob(f"{folder}/*.wy")):
         name = os.path.basename(path)
         (wanted, _, line), checked = timed(programs[1], ["check", name, "none", *options], folder)

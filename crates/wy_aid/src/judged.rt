@@ -39,7 +39,7 @@ pub fn judged(
     let counted = match first_spent(verdicts.as_slice(), asked) {
         Some(number) => {
             if number < conds.len() {
-                let counted = splits_of(alloc, terms, &conds[number])?;
+                let counted = splits_of(alloc, terms, &conds[number], cases(budget))?;
                 Some((number, counted))
             } else {
                 None
@@ -48,6 +48,11 @@ pub fn judged(
         None => None,
     };
     Ok(Ended { verdicts, counted })
+}
+
+// In how many cases splits are counted: a tenth of the budget, from 20 to 200.
+fn cases(budget: u64) -> u64 {
+    (budget / 10).max(20).min(200)
 }
 
 // The number of the first condition that isn't shown, or of the one that is asked for, where its budget is spent.

@@ -10,27 +10,32 @@ use wy_check_nodes::nth_literal;
 use wy_explain::{Cond, Counted, NoMemory, Terms};
 use wy_search::{KnownForms, Next, Spot, first_spot, no_forms, what_follows};
 
-/// How many cases are looked at, and how many nodes stand above one another.
-const CASES: u64 = 200;
-
+/// How many nodes stand above one another.
 const DEEPEST: u32 = 400;
 
-// What was counted so far: how many cases, and of the splits the atoms, each with how often.
+// What was counted so far: how many cases, of so many at most, and of the splits the atoms, each with how often.
 #[derive(Drop)]
 struct Tally {
+    most: u64,
     cases: u64,
     splits: u64,
     atoms: Vec<(u32, u64)>,
 }
 
-/// Counts the splits of the search of a condition in its first 200 cases. There are as many terms as before behind it.
-pub fn splits_of(alloc: Global, terms: &mut Terms, cond: &Cond) -> Result<Counted, NoMemory>
+/// Counts the splits of the search of a condition in so many of its first cases. The terms grow.
+pub fn splits_of(
+    alloc: Global,
+    terms: &mut Terms,
+    cond: &Cond,
+    most: u64,
+) -> Result<Counted, NoMemory>
     requires hyps { All (λ h. h < length terms.old) cond.now.hyps.items }
     requires goal { cond.now.goal < length terms.old }
     requires types { AreTypesBelow (length terms.old) cond.now }
 {
     let mut known = no_forms(alloc, terms.len());
     let mut tally = Tally {
+        most,
         cases: 0,
         splits: 0,
         atoms: Vec::new(alloc),
@@ -41,6 +46,7 @@ pub fn splits_of(alloc: Global, terms: &mut Terms, cond: &Cond) -> Result<Counte
         cases,
         splits,
         atoms,
+        ..
     } = tally;
     let mut own = Terms::new(alloc);
     let mut most = Vec::new(alloc);
@@ -74,7 +80,7 @@ fn count(
     ensures known { OnOk result (AreKnown terms.new known.new) }
     ensures stays { Stays terms.old terms.new }
 {
-    if room == 0 || tally.cases >= CASES {
+    if room == 0 || tally.cases >= tally.most {
         return Ok(());
     }
     match what_follows(terms, known, cond, spot)? {
