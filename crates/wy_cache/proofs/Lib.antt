@@ -1,3 +1,5 @@
 pub mod KeptLemmas
 pub mod CachedLemmas
+pub mod FineLemmas
 pub mod RekeptLemmas
+pub mod WritableLemmas
