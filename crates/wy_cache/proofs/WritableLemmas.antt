@@ -214,16 +214,16 @@ lines_written products (s ∷ steps) text few take h =
 -- the certificate for condition 1
 one_written : (products : Bool) (certs : Certificates) (text : List ℕ) (steps : List Written) → IsShort text → AllTake steps → AreCertificates products certs text → certificate_for certs 1 ≡ Some steps → AreWritable steps
 one_written products [] text steps few take h is = absurd cc
-one_written products (c ∷ cs) text steps few take h is = either (c.0 == 1) refl is
+one_written products (c ∷ cs) text steps few take h is = either (λ e. one_written products cs h.1 steps (short_rest h.0 h.1 text h.2 few) take h.4 e) (c.0 == 1) refl is
   where
-    either : (b : Bool) → (c.0 == 1) ≡ b → cond b (let o : Option (List Written) = Some c.1 in o) (certificate_for cs 1) ≡ Some steps → AreWritable steps
-    either true here e =
+    either : (certificate_for cs 1 ≡ Some steps → AreWritable steps) → (b : Bool) → (c.0 == 1) ≡ b → cond b (let o : Option (List Written) = Some c.1 in o) (certificate_for cs 1) ≡ Some steps → AreWritable steps
+    either later true here e =
         let same : c.1 ≡ steps = cc in
         let one = h.3 in
         let begins = one.begins in
         subst AreWritable same
         (lines_written products c.1 one.body (let at = short_rest one.line (10 ∷ one.body) h.0 begins.is (short_front h.0 h.1 text h.2 few) in omega (arith, at)) (subst AllTake (sym same) take) one.steps)
-    either false other e = one_written products cs h.1 steps (short_rest h.0 h.1 text h.2 few) take h.4 e
+    either later false other e = later e
 
 headed : (header : List ℕ) (products : Bool) (certs : Certificates) (bytes : List ℕ) (steps : List Written) → IsShort bytes → AllTake steps → IsHeaded header products 1 certs bytes → certificate_for certs 1 ≡ Some steps → AreWritable steps
 headed header products certs bytes steps few take h is =

@@ -7,6 +7,7 @@ use Rattle.wy_cache_text.specs.Files.{Entries}
 use Rattle.wy_cert.specs.Steps.{Certificates}
 use Rattle.wy_prove.proofs.wy_prove_writable_proofs.TreeLemmas.{valid_is_one_tree}
 use Rattle.wy_term.specs.Condition.{Condition}
+use Rattle.wy_top.proofs.WritableLemmas.{renewed_valid}
 use Rattle.wy_top.specs.Acceptance.{are_closed}
 use Rattle.wy_top.specs.Caches.{AreSaved, AreSeen, IsSavedRow, IsSeen, entry, is_kept, kept, no_entry, searched}
 use Rattle.wy_top.specs.Programs.{conditions_of}
@@ -14,28 +15,28 @@ use Rattle.wy_top.specs.Saved.{AreSpelled, RenewedKeepsAll}
 
 -- ---- where each condition got one
 
-row_few : (n m : ℕ) (c : Condition) (k : Known) (others certs : Certificates) → length others ≤ m → IsSavedRow n c k.end others certs → length certs ≤ suc m
-row_few n m c k others certs few (entry steps h is) = let same = ap (λ (ds : Certificates). length ds) is in omega (arith, same, few)
-row_few n m c k others certs few (no_entry un is) = let same = ap (λ (ds : Certificates). length ds) is in omega (arith, same, few)
+row_few : (es : Entries) (n m : ℕ) (c : Condition) (k : Known) (others certs : Certificates) → length others ≤ m → IsSavedRow es n c k.end others certs → length certs ≤ suc m
+row_few es n m c k others certs few (entry steps h w is) = let same = ap (λ (ds : Certificates). length ds) is in omega (arith, same, few)
+row_few es n m c k others certs few (no_entry un is) = let same = ap (λ (ds : Certificates). length ds) is in omega (arith, same, few)
 
-saved_few : (n : ℕ) (cs : List Condition) (ks : List Known) (certs : Certificates) → AreSaved n cs ks certs → length certs ≤ length cs
-saved_few n [] [] certs h = let same = ap (λ (ds : Certificates). length ds) h in omega (arith, same)
-saved_few n [] (k ∷ ks) certs h = absurd h
-saved_few n (c ∷ cs) [] certs h = absurd h
-saved_few n (c ∷ cs) (k ∷ ks) certs h = row_few n (length cs) c k h.0 certs (saved_few (n + 1) cs ks h.0 h.2) h.1
+saved_few : (es : Entries) (n : ℕ) (cs : List Condition) (ks : List Known) (certs : Certificates) → AreSaved es n cs ks certs → length certs ≤ length cs
+saved_few es n [] [] certs h = let same = ap (λ (ds : Certificates). length ds) h in omega (arith, same)
+saved_few es n [] (k ∷ ks) certs h = absurd h
+saved_few es n (c ∷ cs) [] certs h = absurd h
+saved_few es n (c ∷ cs) (k ∷ ks) certs h = row_few es n (length cs) c k h.0 certs (saved_few es (n + 1) cs ks h.0 h.2) h.1
 
-all_entered : (n : ℕ) (cs : List Condition) (ks : List Known) (certs : Certificates) → AreSaved n cs ks certs → length certs ≡ length cs → AreSpelled cs → AreEntered n cs certs
-all_entered n [] [] certs h many spelled = h
-all_entered n [] (k ∷ ks) certs h many spelled = absurd h
-all_entered n (c ∷ cs) [] certs h many spelled = absurd h
-all_entered n (c ∷ cs) (k ∷ ks) certs h many spelled = by (λ others rest long. all_entered (n + 1) cs ks others rest long spelled.1) h.0 h.1 h.2
+all_entered : (es : Entries) (n : ℕ) (cs : List Condition) (ks : List Known) (certs : Certificates) → AreSaved es n cs ks certs → length certs ≡ length cs → AreSpelled cs → AreEntered n cs certs
+all_entered es n [] [] certs h many spelled = h
+all_entered es n [] (k ∷ ks) certs h many spelled = absurd h
+all_entered es n (c ∷ cs) [] certs h many spelled = absurd h
+all_entered es n (c ∷ cs) (k ∷ ks) certs h many spelled = by (λ others rest long. all_entered es (n + 1) cs ks others rest long spelled.1) h.0 h.1 h.2
   where
-    by : ((others : Certificates) → AreSaved (n + 1) cs ks others → length others ≡ length cs → AreEntered (n + 1) cs others) → (others : Certificates) → IsSavedRow n c k.end others certs → AreSaved (n + 1) cs ks others → AreEntered n (c ∷ cs) certs
-    by later others (entry steps g is) rest =
+    by : ((others : Certificates) → AreSaved es (n + 1) cs ks others → length others ≡ length cs → AreEntered (n + 1) cs others) → (others : Certificates) → IsSavedRow es n c k.end others certs → AreSaved es (n + 1) cs ks others → AreEntered n (c ∷ cs) certs
+    by later others (entry steps g w is) rest =
         let long : suc (length others) ≡ suc (length cs) = sym (ap (λ (ds : Certificates). length ds) is) ∙ many in
         subst (AreEntered n (c ∷ cs)) (sym is)
-        (refl, record { formulas = spelled.0; valid = g.valid; trees = valid_is_one_tree c steps g.valid; writable = g.writable }, later others rest (omega (arith, long)))
-    by later others (no_entry un is) rest = let few = saved_few (n + 1) cs ks others rest in let long = ap (λ (ds : Certificates). length ds) is in absurd (omega (arith, few, long, many))
+        (refl, record { formulas = spelled.0; valid = renewed_valid es c k.end steps g; trees = valid_is_one_tree c steps (renewed_valid es c k.end steps g); writable = w }, later others rest (omega (arith, long)))
+    by later others (no_entry un is) rest = let few = saved_few es (n + 1) cs ks others rest in let long = ap (λ (ds : Certificates). length ds) is in absurd (omega (arith, few, long, many))
 
 -- ---- where all are kept
 
@@ -59,6 +60,6 @@ all_whole es budget (c ∷ cs) (k ∷ ks) all h = one_whole es budget c cs k ks 
 pub renewed_keeps_all : RenewedKeepsAll
 renewed_keeps_all p budget es text f full spelled told ds read other ks seen =
     let cs = conditions_of p in
-    let entered = all_entered 1 cs f.verdicts f.certificates f.saved full.each spelled in
+    let entered = all_entered es 1 cs f.verdicts f.certificates f.saved full.each spelled in
     let w = all_whole ds other cs ks (keeps_what_is_written cs f.certificates text ds entered told f.is full.fits read) seen in
     (w.many, w.closed)

@@ -79,6 +79,12 @@ HasVerdicts p certs budget j = IsJudgedAs p (AreVerdicts certs budget p) j
 abbrev pub HasTaken : Entries → Program → Certificates → ℕ → Judged → Type 0
 HasTaken es p certs budget j = IsJudgedAs p (λ ks. AreTaken es budget 1 (conditions_of p) ks certs) j
 
+-- so it is for some cache and some program
+pub record HasSomeTaken (certs : Certificates) (budget : ℕ) (j : Judged) : Type 0 where
+  pub entries : Entries
+  pub program : Program
+  pub taken : HasTaken entries program certs budget j
+
 -- the accepted program, with the lines for certificates that aren't valid
 abbrev pub acceptance_in : Accepted → Acceptance
 acceptance_in a = record { program = record { core = core_of a.typed; flow = flow_of a.typed }; lines = a.lines }

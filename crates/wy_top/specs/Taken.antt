@@ -21,9 +21,13 @@ AreTaken es budget n [] (k ∷ ks) certs = ⊥
 AreTaken es budget n (c ∷ cs) [] certs = ⊥
 AreTaken es budget n (c ∷ cs) (k ∷ ks) certs = (others : Certificates) × TakesRow es budget n c k others certs × AreTaken es budget (n + 1) cs ks others
 
+-- certificates with the numbers of their conditions
+abbrev pub pairs : List (ℕ × Cert) → Certificates
+pairs list = map (λ e. (e.0, steps_of e.1)) list
+
 -- those that wait in a list, of which the last one comes first
 abbrev pub waiting : List (ℕ × Cert) → Certificates
-waiting list = map (λ e. (e.0, steps_of e.1)) (reverse list)
+waiting list = pairs (reverse list)
 
 -- ---- the conditions that no certificate is for, where certificates stand in the order of their numbers
 
@@ -32,29 +36,25 @@ abbrev pub comes_next : ℕ → Certificates → Bool
 comes_next n [] = false
 comes_next n (c ∷ cs) = c.0 == n
 
-abbrev pub behind_first : Certificates → Certificates
-behind_first [] = []
-behind_first (c ∷ cs) = cs
+abbrev pub behind : {X : Type 0} → List X → List X
+behind [] = []
+behind (x ∷ xs) = xs
 
 -- those of a list, whose first one has this number, that have none
 abbrev pub others_of : {X : Type 0} → ℕ → Certificates → List X → List X
 others_of n certs [] = []
-others_of n certs (x ∷ xs) = if comes_next n certs then others_of (n + 1) (behind_first certs) xs else x ∷ others_of (n + 1) certs xs
+others_of n certs (x ∷ xs) = if comes_next n certs then others_of (n + 1) (behind certs) xs else x ∷ others_of (n + 1) certs xs
 
 -- the first of a list, if there is one, before some others
 abbrev pub first_before : {X : Type 0} → List X → List X → List X
 first_before [] others = others
 first_before (x ∷ xs) others = x ∷ others
 
-abbrev pub behind : {X : Type 0} → List X → List X
-behind [] = []
-behind (x ∷ xs) = xs
-
 -- so many, from this number on: this one where there is a certificate, else the next one of a list
 abbrev pub beside : {X : Type 0} → X → ℕ → Certificates → ℕ → List X → List X
 beside own n certs zero xs = []
 beside own n certs (suc more) xs =
-    if comes_next n certs then own ∷ beside own (n + 1) (behind_first certs) more xs else first_before xs (beside own (n + 1) certs more (behind xs))
+    if comes_next n certs then own ∷ beside own (n + 1) (behind certs) more xs else first_before xs (beside own (n + 1) certs more (behind xs))
 
 -- this is known of a condition that is kept
 abbrev pub known_kept : Known

@@ -1,10 +1,9 @@
 //! The verdicts on conditions beside those that are kept.
-ghost use Rattle.std.specs.Prelude.{◌≡◌, ◌≤◌, ◌<◌, ◌^◌, ℕ, List, All, [], None, length, map, IfOk};
-ghost use Rattle.wy_batch.specs.Known.{AreKnown, Known, supplied};
+ghost use Rattle.std.specs.Prelude.{◌≡◌, ◌≤◌, ◌<◌, ◌^◌, ℕ, List, All, true, false, length, map, IfOk, MatchOption};
 ghost use Rattle.wy_batch.specs.Seen.{NameTerms, known};
 ghost use Rattle.wy_batch.specs.wy_check.Within.{IsWithin};
-ghost use Rattle.wy_cert.specs.Steps.{certificates_of, steps_of};
-ghost use Rattle.wy_term.specs.Condition.{Condition, condition_of};
+ghost use Rattle.wy_cert.specs.Steps.{certificates_of};
+ghost use Rattle.wy_term.specs.Condition.{condition_of};
 ghost use Rattle.wy_term.specs.Nodes.{Plain, tree_at};
 ghost use Rattle.wy_top.specs.Taken as spec;
 ghost use Rattle.wy_vc.specs.wy_vc_spec.Limits.{most_conditions};
@@ -15,13 +14,21 @@ use wy_batch::{End, Verdict, judge};
 use wy_cert::{Cert, Certs};
 use wy_term::{Cond, Conds, NoMemory, Unfold};
 
-// Whether the certificate that stands first is for the condition with this number.
-fn comes_next(certs: &[(u32, Cert)], number: u32) -> bool
-    ensures value { result ≡ spec.comes_next number (map (λ e. (e.0, steps_of e.1)) certs.now) }
+// The certificates behind the first one, where that is for the condition with this number.
+fn behind_first(certs: &[(u32, Cert)], number: u32) -> Option<&[(u32, Cert)]>
+    ensures value { MatchOption result (spec.comes_next number (spec.pairs certs.now) ≡ false)
+        (λ more. (spec.comes_next number (spec.pairs certs.now) ≡ true)
+        × (spec.pairs more.now ≡ spec.behind (spec.pairs certs.now))) }
 {
-    match certs.first() {
-        Some(first) => first.0 == number,
-        None => false,
+    match certs.split_first() {
+        Some((first, more)) => {
+            if first.0 == number {
+                Some(more)
+            } else {
+                None
+            }
+        }
+        None => None,
     }
 }
 
@@ -44,15 +51,15 @@ fn copied(alloc: Global, cond: &Cond) -> Result<Cond, NoMemory>
 // The conditions that no certificate is for, in order.
 fn others(alloc: Global, conds: &[Cond], kept: &[(u32, Cert)]) -> Result<Vec<Cond>, NoMemory>
     requires few { length conds.now < 2 ^ 32 }
-    ensures value { (nodes : List Plain) → IfOk result (λ r. map (condition_of nodes) r.items ≡ spec.others_of 1 (map (λ e. (e.0, steps_of e.1)) kept.now) (map (condition_of nodes) conds.now)) }
+    ensures value { (nodes : List Plain) → IfOk result (λ r. map (condition_of nodes) r.items ≡ spec.others_of 1 (spec.pairs kept.now) (map (condition_of nodes) conds.now)) }
     ensures within { (n : ℕ) → All (IsWithin n) conds.now → IfOk result (λ r. All (IsWithin n) r.items) }
     ensures count { IfOk result (λ r. length r.items ≤ length conds.now) }
 {
     let mut left = kept;
     let mut list = Vec::new(alloc);
     for i in 0..conds.len() {
-        if comes_next(left, i as u32 + 1) {
-            left = &left[1..];
+        if let Some(more) = behind_first(left, i as u32 + 1) {
+            left = more;
             continue;
         }
         list.push(copied(alloc, &conds[i])?)?;
@@ -68,7 +75,7 @@ fn beside(
     verdicts: Vec<Verdict>,
 ) -> Result<Vec<Verdict>, NoMemory>
     requires few { count < 2 ^ 32 }
-    ensures value { IfOk result (λ r. map known r.items ≡ spec.beside spec.known_kept 1 (map (λ e. (e.0, steps_of e.1)) kept.now) count (map known verdicts.items)) }
+    ensures value { IfOk result (λ r. map known r.items ≡ spec.beside spec.known_kept 1 (spec.pairs kept.now) count (map known verdicts.items)) }
     ensures named { NameTerms verdicts.items → IfOk result (λ r. NameTerms r.items) }
 {
     let mut left = kept;
@@ -76,8 +83,8 @@ fn beside(
     waiting.reverse();
     let mut list = Vec::new(alloc);
     for i in 0..count {
-        if comes_next(left, i as u32 + 1) {
-            left = &left[1..];
+        if let Some(more) = behind_first(left, i as u32 + 1) {
+            left = more;
             list.push(Verdict {
                 bad_step: None,
                 end: End::Supplied,
@@ -107,6 +114,7 @@ pub fn judge_others<R: Threads + Sync>(
     requires workers { (1 ≤ workers) × (workers ≤ 64) }
     ensures judged { IfOk result (λ r. spec.AreBeside budget (certificates_of kept.now) (map (condition_of conds.terms) conds.list.items) (map known r.1.items)) }
     ensures named { IfOk result (λ r. NameTerms r.1.items) }
+    ensures count { IfOk result (λ r. length r.1.items ≡ length conds.list.items) }
     ensures list { IfOk result (λ r. r.0.list ≡ conds.list) }
     ensures length { IfOk result (λ r. length r.0.terms ≡ length conds.terms) }
     ensures kept { IfOk result (λ r. (t : ℕ) → t < length conds.terms → tree_at r.0.terms t ≡ tree_at conds.terms t) }
