@@ -2,4 +2,5 @@ pub mod KeptLemmas
 pub mod CachedLemmas
 pub mod FineLemmas
 pub mod RekeptLemmas
+pub mod TellingLemmas
 pub mod WritableLemmas
