@@ -1,5 +1,5 @@
 -- What is read as a term is of its sort, and names and numbers in it are within their ranges.
-use Rattle.std.proofs.Common.{◌≡◌, ◌∙◌, ◌<◌, ◌≤◌, ◌+◌, ◌^◌, ℕ, zero, suc, List, [], ◌∷◌, ◌++◌, Bool, true, false, cond, codes, length, ℤ, pos, negsuc, neg_ℤ, ◌+ℤ◌, ◌-ℤ◌, ◌*ℤ◌, ◌<ℤ◌, ◌≤ℤ◌, Option, Some, None, ◌⊎◌, inl, inr, refl, sym, ap, subst, arith}
+use Rattle.std.proofs.Common.{◌≡◌, ◌<◌, ◌≤◌, ◌+◌, ◌^◌, ℕ, zero, suc, List, [], ◌∷◌, ◌++◌, Bool, true, false, cond, codes, length, ℤ, pos, negsuc, neg_ℤ, ◌+ℤ◌, ◌-ℤ◌, ◌*ℤ◌, ◌<ℤ◌, ◌≤ℤ◌, Option, Some, None, ◌⊎◌, inl, inr, refl, sym, ap, subst, arith}
 use Rattle.std.specs.Fmt.{decimal, signed_decimal}
 use Rattle.std.specs.Prelude.{bytes_eq, nat_le}
 use Rattle.std.proofs.lemmas.Bool.{lt-ltb}
@@ -17,7 +17,7 @@ use Rattle.wy_term.specs.Rewriting.{as_number, as_int, as_bool, as_array, as_den
 use Rattle.wy_term.specs.Folding.{found, found_or, hidden, span, span_of, instances, number_or_zero, binder, joined_by, quantified, parts_of, replaced, replacers, fold_range, folded}
 use Rattle.wy_term.specs.Sorts.{Sort, int_sort, val_sort, formula_sort, sort_of, sort_in}
 use Rattle.wy_term.proofs.SameLemmas.{terms_are}
-use Rattle.wy_term_text.specs.spell.Grammar.{AtPlace, Before, Closes, Gap, IsConstant, IsInRange, IsNumbered, Laid, Layout, Series, Spans, Stops, between, binding, closing, elements, field_gaps, field_list, first_of, gapped, kind_before, layout, members, more_names, more_of, next_place, opening, sort_in as series_sort, texts, worded}
+use Rattle.wy_term_text.specs.spell.Grammar.{Before, Gap, IsConstant, IsInRange, IsNumbered, Laid, Layout, Series, Spans, Stops, between, binding, closing, elements, field_gaps, field_list, first_of, gapped, kind_before, layout, members, more_names, more_of, next_place, opening, sort_in as series_sort, texts, worded}
 use Rattle.wy_term_text.specs.spell.Made.{IsSpelled, made, made_parts}
 use Rattle.wy_term_text.specs.reread.Shown.{AreOf, FitsPlace, IsOf, MayEnd}
 

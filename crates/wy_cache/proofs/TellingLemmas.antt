@@ -1,8 +1,7 @@
 -- Texts tell conditions where they tell formulas.
-use Rattle.std.proofs.Common.{◌≡◌, ◌∙◌, ℕ, suc, List, [], ◌∷◌, ◌++◌, length, map, refl, sym, ap, arith}
+use Rattle.std.proofs.Common.{◌≡◌, ◌∙◌, ℕ, List, [], ◌∷◌, ◌++◌, length, map, refl, sym, ap, arith}
 use Rattle.std.proofs.lemmas.List.{length-append}
 use Rattle.wy_term.proofs.wy_data_proofs.scan_lemmas.RunLemmas.{run_same}
-use Rattle.wy_term.specs.Condition.{Condition}
 use Rattle.wy_term.specs.Term.{Term}
 use Rattle.wy_term_text.specs.show.Text.{text_of}
 use Rattle.wy_cache_text.specs.Lines.{AreInside, is_inside, lines_text}
@@ -37,8 +36,8 @@ formulas_told tell (f ∷ fs) (g ∷ gs) a b e =
 -- the last of a list, and those before it
 parted : (fs gs : List Term) (f g : Term) → fs ++ f ∷ [] ≡ gs ++ g ∷ [] → (fs ≡ gs) × (f ≡ g)
 parted [] [] f g e = (refl, cc)
-parted [] (h ∷ gs) f g e = let same = ap (λ (x : List Term). length x) e in omega (arith, same, length-append gs (g ∷ []))
-parted (h ∷ fs) [] f g e = let same = ap (λ (x : List Term). length x) e in omega (arith, same, length-append fs (f ∷ []))
+parted [] (h ∷ gs) f g e = let same = ap (λ (x : List Term). length x) e in absurd (omega (arith, same, length-append gs (g ∷ [])))
+parted (h ∷ fs) [] f g e = let same = ap (λ (x : List Term). length x) e in absurd (omega (arith, same, length-append fs (f ∷ [])))
 parted (h ∷ fs) (i ∷ gs) f g e =
     let first : h ≡ i = cc in
     let others : fs ++ f ∷ [] ≡ gs ++ g ∷ [] = cc in

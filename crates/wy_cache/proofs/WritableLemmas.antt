@@ -1,5 +1,5 @@
 -- A valid certificate that was read can be written.
-use Rattle.std.proofs.Common.{◌≡◌, ◌∙◌, ◌⊎◌, ◌<◌, ◌≤◌, ◌+◌, ◌^◌, ℕ, List, [], ◌∷◌, ◌++◌, Bool, true, false, cond, codes, length, Option, Some, None, Ok, inl, inr, refl, sym, ap, subst, arith}
+use Rattle.std.proofs.Common.{◌≡◌, ◌<◌, ◌+◌, ◌^◌, ℕ, List, [], ◌∷◌, ◌++◌, Bool, true, false, cond, codes, length, Option, Some, None, inl, inr, refl, sym, ap, subst, arith}
 use Rattle.std.specs.Prelude.{◌==◌}
 use Rattle.std.specs.Fmt.{decimal}
 use Rattle.std.proofs.lemmas.List.{length-append}
@@ -12,12 +12,11 @@ use Rattle.wy_term.specs.Sorts.{Sort, formula_sort, int_sort, val_sort}
 use Rattle.wy_term.specs.Term as term
 use Rattle.wy_term.specs.Term.{Term, Of, no_parts}
 use Rattle.wy_cert.specs.Arguments.{AreArguments, FollowBy, IsArgument, IsPieceAt, IsTerm}
-use Rattle.wy_cert.specs.File.{ReadsFile}
-use Rattle.wy_cert.specs.Lines.{IsBody, IsOther, IsStep, word_of}
+use Rattle.wy_cert.specs.Lines.{IsBody, IsOther, word_of}
 use Rattle.wy_cert.specs.declared.verb.Verb.{Verb}
 use Rattle.wy_cert.specs.declared.verb.Verb.TheVariants as verb
 use Rattle.wy_cert.specs.Numbers.{ArePairs, IsPlaceAt}
-use Rattle.wy_cert.specs.Steps.{Certificates, Written, split, shut, chain, clash, sum_of, cut, inst, wit, fact, prod}
+use Rattle.wy_cert.specs.Steps.{Certificates, Written, fact}
 use Rattle.wy_check.proofs.wy_check_laws_proofs.reread_lemmas.FileLemmas.{files_are_read}
 use Rattle.wy_check.specs.Verdicts.{certificate_for}
 use Rattle.wy_check.specs.wy_check_laws.reread.Grammar.{AreCertificates, AreLines, IsFile, IsHeaded}
@@ -26,7 +25,7 @@ use Rattle.wy_check.specs.wy_lin.Linear.{◌>>=◌}
 use Rattle.wy_check.specs.wy_vc_laws.wy_check_spec.judge.Node.{Node, first_node}
 use Rattle.wy_check.specs.wy_vc_laws.wy_check_spec.valid.Membership.{fact_among, membership}
 use Rattle.wy_check.specs.wy_vc_laws.wy_check_spec.valid.Validity.{IsValid, after, first_bad_by, left_with_one, or_bad}
-use Rattle.wy_check.specs.wy_vc_laws.wy_facts.Schema.{Instance, as_element, by_one, by_two, datum_by_kind, division, element_elsewhere, element_of_array, element_of_copies, element_updated, elements_at_one_index, equal_numbers, field_elsewhere, field_updated, instance_of, kind_of_field_updated, kind_of_updated, length_is_natural, length_of_copies, length_of_updated, stated}
+use Rattle.wy_check.specs.wy_vc_laws.wy_facts.Schema.{as_element, by_one, by_two, datum_by_kind, division, element_elsewhere, element_of_array, element_of_copies, element_updated, elements_at_one_index, equal_numbers, field_elsewhere, field_updated, kind_of_field_updated, kind_of_updated, length_is_natural, length_of_copies, length_of_updated}
 use Rattle.wy_cache.specs.Kept.{IsSteps, file_with}
 use Rattle.wy_cache.proofs.FineLemmas.{read_is_of}
 
@@ -86,15 +85,21 @@ none_is_some o x e f = cc
 
 takes : (types : List Entry) (n : ℕ) (ts : List Term) (f : Term) → fact_among types n ts ≡ Some f → AreNoConstants ts
 takes types n [] f e = tt
-takes types n (t ∷ []) f e =
-    (no_constant t (λ b is. none_is_some (fact_among types n (t ∷ [])) f
-    (subst (λ (s : Term). fact_among types n (s ∷ []) ≡ None) (sym is)
-    (none_either (n == 16) _ _ (at_constant (membership types) b refl refl) (none_bound (by_one n (decided b)) _ (plain_none n b)))) e), tt)
-takes types n (s ∷ t ∷ []) f e =
-    (no_constant s (λ b is. none_is_some (fact_among types n (s ∷ t ∷ [])) f
-    (subst (λ (u : Term). fact_among types n (u ∷ t ∷ []) ≡ None) (sym is) (none_either (n == 16) _ _ refl (none_bound (by_two n (decided b) t) _ (first_none n b t)))) e),
-    (no_constant t (λ b is. none_is_some (fact_among types n (s ∷ t ∷ [])) f
-    (subst (λ (u : Term). fact_among types n (s ∷ u ∷ []) ≡ None) (sym is) (none_either (n == 16) _ _ refl (none_bound (by_two n s (decided b)) _ (second_none n b s)))) e), tt))
+takes types n (t ∷ []) f e = (
+  no_constant t (λ b is. none_is_some (fact_among types n (t ∷ [])) f
+      (subst (λ (s : Term). fact_among types n (s ∷ []) ≡ None) (sym is)
+      (none_either (n == 16) _ _ (at_constant (membership types) b refl refl) (none_bound (by_one n (decided b)) _ (plain_none n b)))) e),
+  tt,
+)
+takes types n (s ∷ t ∷ []) f e = (
+  no_constant s (λ b is. none_is_some (fact_among types n (s ∷ t ∷ [])) f
+      (subst (λ (u : Term). fact_among types n (u ∷ t ∷ []) ≡ None) (sym is) (none_either (n == 16) _ _ refl (none_bound (by_two n (decided b) t) _ (first_none n b t)))) e),
+  (
+    no_constant t (λ b is. none_is_some (fact_among types n (s ∷ t ∷ [])) f
+        (subst (λ (u : Term). fact_among types n (s ∷ u ∷ []) ≡ None) (sym is) (none_either (n == 16) _ _ refl (none_bound (by_two n s (decided b)) _ (second_none n b s)))) e),
+    tt,
+  ),
+)
 takes types n (s ∷ t ∷ u ∷ us) f e = absurd (none_is_some (fact_among types n (s ∷ t ∷ u ∷ us)) f (none_either (n == 16) _ _ refl refl) e)
 
 -- the arguments of a fact are such
