@@ -1,5 +1,5 @@
 -- The conditions beside those that are kept, one after the other.
-use Rattle.std.proofs.Common.{◌≡◌, ◌∙◌, ◌<◌, ◌≤◌, ◌+◌, ◌-◌, ℕ, zero, suc, List, [], ◌∷◌, ◌++◌, Bool, true, false, cond, drop, get_or, length, map, refl, sym, ap, subst, arith, append_assoc}
+use Rattle.std.proofs.Common.{◌≡◌, ◌∙◌, ◌<◌, ◌≤◌, ◌+◌, ◌-◌, ℕ, zero, suc, List, [], ◌∷◌, ◌++◌, Bool, true, false, cond, drop, get_or, length, map, take, refl, sym, ap, subst, arith, append_assoc}
 use Rattle.std.proofs.lemmas.List.{append-nil, length-append, length-map, map-append, reverse-append}
 use Rattle.std.specs.Prelude.{reverse}
 use Rattle.wy_batch.specs.Known.{AreKnown, Known}
@@ -20,8 +20,8 @@ module _ (of : Cond → Condition) (conds : List Cond) (i : ℕ) (c : Cond) (lt 
   chosen : (b : Bool) → comes_next (i + 1) left ≡ b → others_of (i + 1) left (drop i (map of conds)) ≡ cond b (others_of (i + 1 + 1) (behind left) rest) (of c ∷ others_of (i + 1 + 1) left rest)
   chosen b is = ap (others_of (i + 1) left) (drop_mapped of conds i c lt at) ∙ ap (λ (e : Bool). cond e (others_of (i + 1 + 1) (behind left) rest) (of c ∷ others_of (i + 1 + 1) left rest)) is
 
-  pub others_kept : (done all : List Condition) (more : Certificates) → comes_next (i + 1) left ≡ true → more ≡ behind left → done ++ others_of (i + 1) left (drop i (map of conds)) ≡ all → done ++ others_of (i + 1 + 1) more rest ≡ all
-  others_kept done all more next is so_far = ap (λ (xs : List Condition). done ++ xs) (ap (λ (ds : Certificates). others_of (i + 1 + 1) ds rest) is ∙ sym (chosen true next)) ∙ so_far
+  kept_here : (done all : List Condition) (more : Certificates) → comes_next (i + 1) left ≡ true → more ≡ behind left → done ++ others_of (i + 1) left (drop i (map of conds)) ≡ all → done ++ others_of (i + 1 + 1) more rest ≡ all
+  kept_here done all more next is so_far = ap (λ (xs : List Condition). done ++ xs) (ap (λ (ds : Certificates). others_of (i + 1 + 1) ds rest) is ∙ sym (chosen true next)) ∙ so_far
 
   pub others_left : (list new : List Cond) (d : Cond) (all : List Condition) → comes_next (i + 1) left ≡ false → of d ≡ of c → new ≡ list ++ d ∷ [] → map of list ++ others_of (i + 1) left (drop i (map of conds)) ≡ all → map of new ++ others_of (i + 1 + 1) left rest ≡ all
   others_left list new d all next same pushed so_far =
@@ -29,10 +29,28 @@ module _ (of : Cond → Condition) (conds : List Cond) (i : ℕ) (c : Cond) (lt 
       ∙ append_assoc (map of list) (of c ∷ []) (others_of (i + 1 + 1) left rest)
       ∙ ap (λ (xs : List Condition). map of list ++ xs) (sym (chosen false next)) ∙ so_far
 
+-- one that has a certificate, whichever it is
+pub others_kept : (of : Cond → Condition) (conds : List Cond) (i : ℕ) → i < length conds → (left : Certificates) (done all : List Condition) (more : Certificates) → comes_next (i + 1) left ≡ true → more ≡ behind left
+    → done ++ others_of (i + 1) left (drop i (map of conds)) ≡ all → done ++ others_of (i + 1 + 1) more (drop (i + 1) (map of conds)) ≡ all
+others_kept of conds i lt left done all more next is so_far = let c = at_place conds i lt in kept_here of conds i c.0 lt c.1 left done all more next is so_far
+  where
+    at_place : (cs : List Cond) (k : ℕ) → k < length cs → (c : Cond) × (c ≡ get_or cs k c)
+    at_place [] k less = absurd (omega (arith, less))
+    at_place (c ∷ cs) zero less = (c, refl)
+    at_place (c ∷ cs) (suc k) less = at_place cs k (omega (arith, less))
+
 pub others_all : (of : Cond → Condition) (conds : List Cond) (i : ℕ) (left : Certificates) (done all : List Condition) → length conds ≤ i → done ++ others_of (i + 1) left (drop i (map of conds)) ≡ all → done ≡ all
 others_all of conds i left done all le so_far = sym (append-nil done) ∙ ap (λ (cs : List Condition). done ++ others_of (i + 1) left cs) (sym (none_dropped of conds i le)) ∙ so_far
 
 -- ---- what is known of all
+
+none_taken : (k : ℕ) → take k (let none : List Verdict = [] in none) ≡ []
+none_taken zero = refl
+none_taken (suc k) = refl
+
+pub names_none : (waiting new : List Verdict) (k : ℕ) → length waiting ≡ 0 → new ≡ take k waiting → NameTerms new
+names_none [] new k none same = subst NameTerms (sym (same ∙ none_taken k)) tt
+names_none (v ∷ waiting) new k none same = absurd (omega (arith, none))
 
 module _ (count i : ℕ) (lt : i < count) (left : Certificates) where
   one_less : count - i ≡ suc (count - (i + 1))
@@ -63,11 +81,11 @@ module _ (count i : ℕ) (lt : i < count) (left : Certificates) where
       ∙ ap (λ (xs : List Known). map known list ++ xs)
       (sym (follow false (map known (reverse waiting)) next ∙ ap (λ (ks : List Known). first_before ks (beside known_kept (i + 1 + 1) left (count - (i + 1)) (behind ks))) first)) ∙ so_far
 
-  pub beside_none : (list waiting new : List Verdict) (all : List Known) → comes_next (i + 1) left ≡ false → length waiting ≡ 0 → new ≡ waiting
+  pub beside_none : (list waiting new : List Verdict) (k : ℕ) (all : List Known) → comes_next (i + 1) left ≡ false → length waiting ≡ 0 → new ≡ take k waiting
       → map known list ++ beside known_kept (i + 1) left (count - i) (map known (reverse waiting)) ≡ all → map known list ++ beside known_kept (i + 1 + 1) left (count - (i + 1)) (map known (reverse new)) ≡ all
-  beside_none list [] new all next none same so_far =
-      ap (λ (vs : List Verdict). map known list ++ beside known_kept (i + 1 + 1) left (count - (i + 1)) (map known (reverse vs))) same ∙ ap (λ (xs : List Known). map known list ++ xs) (sym (follow false [] next)) ∙ so_far
-  beside_none list (v ∷ waiting) new all next none same so_far = absurd (omega (arith, none))
+  beside_none list [] new k all next none same so_far =
+      ap (λ (vs : List Verdict). map known list ++ beside known_kept (i + 1 + 1) left (count - (i + 1)) (map known (reverse vs))) (same ∙ none_taken k) ∙ ap (λ (xs : List Known). map known list ++ xs) (sym (follow false [] next)) ∙ so_far
+  beside_none list (v ∷ waiting) new k all next none same so_far = absurd (omega (arith, none))
 
 pub beside_all : (count i : ℕ) (left : Certificates) (waits done all : List Known) → count ≤ i → done ++ beside known_kept (i + 1) left (count - i) waits ≡ all → done ≡ all
 beside_all count i left waits done all le so_far =

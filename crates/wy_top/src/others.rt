@@ -91,9 +91,10 @@ fn beside(
             })?;
             continue;
         }
-        if let Some(verdict) = waiting.pop() {
-            list.push(verdict)?;
-        }
+        let Some(verdict) = waiting.pop() else {
+            continue;
+        };
+        list.push(verdict)?;
     }
     Ok(list)
 }

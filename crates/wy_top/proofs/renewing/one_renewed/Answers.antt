@@ -13,7 +13,7 @@ pub returns-in-Some-clause-made : goal.returns-in-Some-clause-made
 returns-in-Some-clause-made c = λ es n cs ks k is h.
     let end : k.end ≡ supplied = sym is ∙ ap seen_end c.in-Supplied.is in
     let d = condition_of c.args.terms.now c.args.cond.now in
-    let x = (c.in-Some._number, c.in-Some.cert) in
+    let x : ℕ × Cert = (c.in-Some._number, c.in-Some.cert) in
     let p = popped es c.args.budget n d k cs ks c.args.left.now.items c.pop.new.self.items x c.in-Some.ensures.items end h in
     let written = last_has (λ (e : ℕ × Cert). IsWritten e.1) c.pop.new.self.items c.args.left.now.items x c.in-Some.ensures.items c.requires.written in
     kept_made es d k.end c.in-Some.cert end p.kept written.writable
