@@ -1,3 +1,4 @@
 pub mod MarkLemmas
+pub mod MetLemmas
 pub mod IndexLemmas
 pub mod WorkLemmas

@@ -1,5 +1,5 @@
 -- A mark more.
-use Rattle.std.proofs.Common.{◌≡◌, ℕ, zero, suc, ◌+◌, ◌<◌, List, [], ◌∷◌, ◌++◌, length, Bool, true, false, ◌||◌, ◌⊎◌, inl, inr, Some, set, refl, ap, arith}
+use Rattle.std.proofs.Common.{◌≡◌, ℕ, zero, suc, ◌+◌, ◌<◌, List, [], ◌∷◌, ◌++◌, length, Bool, true, false, ◌⊎◌, inl, inr, Some, set, refl, ap, arith}
 use Rattle.std.specs.Prelude.{slice_get}
 use Rattle.wy_graph.specs.closure.Marks.{mark_at}
 use Rattle.wy_graph.specs.closure.Closure.{waiting}

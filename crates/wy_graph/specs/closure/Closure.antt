@@ -1,6 +1,7 @@
 -- The least set of numbers that is closed under clauses.
-use Rattle.std.specs.Prelude.{◌≡◌, ℕ, ◌+◌, ◌<◌, List, [], ◌∷◌, Bool, true, false, ◌||◌, ◌==◌, ◌⊎◌, Some, slice_get, length}
+use Rattle.std.specs.Prelude.{◌≡◌, ℕ, ◌+◌, ◌<◌, List, [], ◌∷◌, Bool, true, false, ◌||◌, ◌==◌, ◌⊎◌, Some, slice_get, length, take}
 use Rattle.std.specs.Prelude.{slice_set}
+use Rattle.std.specs.Option.{unwrap_or}
 use Rattle.wy_graph.specs.declared.closure.clauses.Clause.{Clause}
 use Rattle.wy_graph.specs.closure.Marks.{mark_at, each_marked}
 
@@ -33,3 +34,11 @@ waiting [] asking = 0
 waiting (m ∷ marks) [] = 0
 waiting (true ∷ marks) (a ∷ asking) = waiting marks asking
 waiting (false ∷ marks) (a ∷ asking) = length a + waiting marks asking
+
+-- the number at a place, if there is one, or 0
+abbrev pub number_at : List ℕ → ℕ → ℕ
+number_at ns i = unwrap_or (slice_get ns i) 0
+
+-- of each clause, as many lists from the front as are noted have a number with a mark
+abbrev pub AreMet : List Clause → List Bool → List ℕ → Type 0
+AreMet clauses marks met = (i : ℕ) (c : Clause) → slice_get clauses i ≡ Some c → each_marked marks (take (number_at met i) c.body) ≡ true

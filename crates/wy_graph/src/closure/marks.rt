@@ -1,5 +1,5 @@
 //! Sets of numbers, as a mark for each number.
-ghost use Rattle.std.specs.Prelude.{◌≡◌, ℕ, false, length, IfOk};
+ghost use Rattle.std.specs.Prelude.{◌≡◌, ◌<◌, ℕ, false, true, length, take, IfOk};
 ghost use Rattle.wy_graph.specs.closure.Marks as marking;
 
 use std::alloc::{AllocError, Global};
@@ -37,6 +37,24 @@ pub fn each_marked(marks: &[bool], lists: &[Items<u32>]) -> bool
         }
     }
     true
+}
+
+/// The first of the lists that has no number with a mark, where the `known` ones before it are known to have one; their count
+/// if each has. It takes the time of the lists that it looks at.
+#[tactic(auto, using(crate::proofs::closure_lemmas::MetLemmas::met_more, crate::proofs::closure_lemmas::MetLemmas::unmet_at))]
+pub fn first_unmet(marks: &[bool], lists: &[Items<u32>], known: usize) -> usize
+    requires known { marking.each_marked marks.now (take known lists.now) ≡ true }
+    ensures known { marking.each_marked marks.now (take result lists.now) ≡ true }
+    ensures unmet { result < length lists.now → marking.each_marked marks.now lists.now ≡ false }
+{
+    let mut first = known;
+    while first < lists.len() {
+        if !any_marked(marks, lists[first].as_slice()) {
+            return first;
+        }
+        first += 1;
+    }
+    first
 }
 
 /// No mark for each of so many numbers.
