@@ -1,3 +1,6 @@
 pub mod KeptLemmas
 pub mod CachedLemmas
+pub mod FineLemmas
 pub mod RekeptLemmas
+pub mod TellingLemmas
+pub mod WritableLemmas

@@ -35,11 +35,11 @@ use Rattle.wy_cache.proofs.CachedLemmas.{steps_inside, steps_lines}
 formula_inside : (f : Term) → IsWritableAt formula_sort f → AllPass is_inside (text_of f)
 formula_inside f h = (step_inside (split f) h).1.1.1.1.1.1
 
-formulas_inside : (fs : List Term) → AreFormulas fs → AreInside (map text_of fs)
+pub formulas_inside : (fs : List Term) → AreFormulas fs → AreInside (map text_of fs)
 formulas_inside [] h = tt
 formulas_inside (f ∷ fs) h = (formula_inside f h.0, formulas_inside fs h.1)
 
-key_lines : (hyps : List Term) (goal : Term) → texts line_of hyps ++ line_of goal ≡ lines_text (map text_of (hyps ++ goal ∷ []))
+pub key_lines : (hyps : List Term) (goal : Term) → texts line_of hyps ++ line_of goal ≡ lines_text (map text_of (hyps ++ goal ∷ []))
 key_lines [] goal = refl
 key_lines (h ∷ hyps) goal =
     append_assoc (line_of h) (texts line_of hyps) (line_of goal)

@@ -3,6 +3,7 @@ use Rattle.std.specs.Prelude.{◌≡◌, ◌⊎◌, ℕ, ◌+◌, List, [], ◌�
 use Rattle.wy_term.specs.Term.{Term}
 use Rattle.wy_term.specs.Sorts.{formula_sort}
 use Rattle.wy_term.specs.Condition.{Condition}
+use Rattle.wy_term_text.specs.show.Text.{text_of}
 use Rattle.wy_cert.specs.Steps.{Written, Certificates}
 use Rattle.wy_check.specs.wy_check_laws.reread.Writable.{AreTrees, AreWritable, IsWritableAt}
 use Rattle.wy_check.specs.wy_vc_laws.wy_check_spec.valid.Validity.{IsValid}
@@ -37,6 +38,14 @@ IsAmong c (d ∷ ds) = (c ≡ d) ⊎ IsAmong c ds
 -- where two of these have one text they are the same
 abbrev pub AreTold : List Condition → Type 0
 AreTold cs = (c d : Condition) → IsAmong c cs → IsAmong d cs → key_of c ≡ key_of d → c ≡ d
+
+-- a text is that of one formula
+abbrev pub FormulasAreTold : Type 0
+FormulasAreTold = (f g : Term) → IsWritableAt formula_sort f → IsWritableAt formula_sort g → text_of f ≡ text_of g → f ≡ g
+
+-- conditions with one text have the same hypotheses and the same goal, if a text is that of one formula
+abbrev pub TextsTell : Type 0
+TextsTell = FormulasAreTold → (c d : Condition) → AreFormulas (c.hyps ++ c.goal ∷ []) → AreFormulas (d.hyps ++ d.goal ∷ []) → key_of c ≡ key_of d → (c.hyps ≡ d.hyps) × (c.goal ≡ d.goal)
 
 -- each of these is kept
 abbrev pub AllKept : Entries → List Condition → Type 0

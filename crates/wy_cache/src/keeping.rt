@@ -7,6 +7,7 @@ ghost use Rattle.wy_cert.specs.Only.{IsTheOne, HasNone};
 ghost use Rattle.wy_cert.specs.Steps.{steps_of, certificates_of, NamesItsTerms, NameTheirTerms};
 ghost use Rattle.wy_check.specs.Verdicts.{certificate_for};
 ghost use Rattle.wy_check.specs.Within.{IsWithin};
+ghost use Rattle.wy_check.specs.wy_check_laws.reread.Writable.{AreWritable};
 ghost use Rattle.wy_cache_text.specs.Files.{Entries};
 ghost use Rattle.wy_cache_text.specs.Found.{IsTable};
 ghost use Rattle.wy_cache_text.specs.Seen.{all_held};
@@ -71,6 +72,7 @@ fn kept_one(
     requires shown { AreShown terms.old shown.old }
     ensures value { (es : Entries) → IsTable es table.now → IfOk result (λ o. MatchOption o (HasNone (IsKept es (condition_of terms.old cond.now))) (λ cert. IsTheOne (IsKept es (condition_of terms.old cond.now)) (steps_of cert))) }
     ensures names { IfOk result (λ o. IfSome o NamesItsTerms) }
+    ensures writable { IfOk result (λ o. IfSome o (λ cert. AreWritable (steps_of cert))) }
     ensures shown { OnOk result (AreShown terms.new shown.new) }
     ensures length { length terms.new ≡ length terms.old }
     ensures kept { (t : ℕ) → t < length terms.old → tree_at terms.new t ≡ tree_at terms.old t }
@@ -98,6 +100,7 @@ fn kept_among(
     requires conds { All (IsWithin (length terms.old)) conds.now }
     ensures value { IfOk result (λ certs. IsTheOne (AreKept (all_held cache.now.entries.items) 1 (map (condition_of terms.old) conds.now)) (certificates_of certs)) }
     ensures names { IfOk result NameTheirTerms }
+    ensures writable { IfOk result (λ certs. All (λ e. AreWritable (steps_of e.1)) certs.list.items) }
     ensures length { length terms.new ≡ length terms.old }
     ensures kept { (t : ℕ) → t < length terms.old → tree_at terms.new t ≡ tree_at terms.old t }
 {
@@ -117,12 +120,13 @@ fn kept_among(
 }
 
 /// The certificates of the conditions that a cache shows: of each for which the first entry with its text has a valid
-/// certificate, that one. The conditions are as before afterwards, at want of memory too. It takes expected time linear in the
+/// certificate, that one, which can be written again. The conditions are as before afterwards, at want of memory too. It takes expected time linear in the
 /// cache and in the texts of the conditions, beside what making terms and checking the certificates take; nothing is searched.
 pub fn kept(cache: &Cache, conds: &mut Conds) -> Result<Certs, NoMemory>
     requires conds { All (IsWithin (length conds.old.terms)) conds.old.list.items }
     ensures value { IfOk result (λ certs. IsTheOne (AreKept (all_held cache.now.entries.items) 1 (map (condition_of conds.old.terms) conds.old.list.items)) (certificates_of certs)) }
     ensures names { IfOk result NameTheirTerms }
+    ensures writable { IfOk result (λ certs. All (λ e. AreWritable (steps_of e.1)) certs.list.items) }
     ensures list { conds.new.list ≡ conds.old.list }
     ensures length { length conds.new.terms ≡ length conds.old.terms }
     ensures kept { (t : ℕ) → t < length conds.old.terms → tree_at conds.new.terms t ≡ tree_at conds.old.terms t }

@@ -1,8 +1,14 @@
-//! What is written is kept. The function here does nothing when it runs.
-ghost use Rattle.wy_cache.specs.Rekept.{KeepsWhatIsWritten};
+//! What is written is kept. The functions here do nothing when they run.
+ghost use Rattle.wy_cache.specs.Rekept.{KeepsWhatIsWritten, TextsTell};
 
 /// A cache in which each condition of a list has an entry with a valid certificate keeps each of them when it is read again,
 /// where the texts of the conditions tell them apart.
 pub fn written_conditions_are_kept()
     ensures kept { KeepsWhatIsWritten }
+{}
+
+/// Two conditions whose formulas can be written and that have one text have the same hypotheses and the same goal, if a text is that
+/// of one formula.
+pub fn texts_tell_conditions()
+    ensures tell { TextsTell }
 {}

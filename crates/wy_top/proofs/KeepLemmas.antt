@@ -1,12 +1,21 @@
 -- What a cache with all conditions of a program keeps.
-use Rattle.std.proofs.Common.{◌≡◌, ◌∙◌, ◌<◌, ◌≤◌, ◌+◌, ◌&&◌, ℕ, suc, List, [], ◌∷◌, length, Bool, true, false, cond, inl, inr, refl, sym, ap, subst, arith}
+use Rattle.std.proofs.Common.{◌≡◌, ◌∙◌, ◌<◌, ◌≤◌, ◌+◌, ◌&&◌, ℕ, suc, List, [], ◌∷◌, length, Bool, true, false, cond, inl, inr, map, ◌++◌, refl, sym, ap, subst, arith}
 use Rattle.wy_batch.specs.Known.{Known, count, is_closed}
 use Rattle.wy_cache.proofs.RekeptLemmas.{keeps_what_is_written}
-use Rattle.wy_cache.specs.Rekept.{AllKept, AreEntered, IsAmong}
+use Rattle.wy_cache.proofs.TellingLemmas.{texts_tell}
+use Rattle.wy_cache.specs.Rekept.{AllKept, AreEntered, AreFormulas, AreTold, FormulasAreTold, IsAmong}
 use Rattle.wy_cache_text.specs.Files.{Entries}
 use Rattle.wy_cert.specs.Steps.{Certificates}
 use Rattle.wy_prove.proofs.wy_prove_writable_proofs.TreeLemmas.{valid_is_one_tree}
-use Rattle.wy_term.specs.Condition.{Condition}
+use Rattle.wy_term.specs.Condition.{Condition, Entry}
+use Rattle.wy_term.specs.Term.{Term}
+use Rattle.wy_top_probe.specs.wy_top_answers.wy_sound_terms.formed.OwedConditions.{with_types}
+use Rattle.wy_vc.specs.wy_vc_spec.Limits.{mentioned, rising_among, tests_in_all, unfolded}
+use Rattle.wy_vc.specs.wy_vc_spec.Numbered.{numbered_core}
+use Rattle.wy_vc.specs.wy_vc_spec.Owed.{Owed}
+use Rattle.wy_vc.specs.wy_vc_spec.Programs.{conditions_of as what_is_owed, setting_of}
+use Rattle.wy_vc.specs.wy_vc_spec.Values.{Setting}
+use Rattle.wy_top.proofs.WritableLemmas.{renewed_valid}
 use Rattle.wy_top.specs.Acceptance.{are_closed}
 use Rattle.wy_top.specs.Caches.{AreSaved, AreSeen, IsSavedRow, IsSeen, entry, is_kept, kept, no_entry, searched}
 use Rattle.wy_top.specs.Programs.{conditions_of}
@@ -14,28 +23,28 @@ use Rattle.wy_top.specs.Saved.{AreSpelled, RenewedKeepsAll}
 
 -- ---- where each condition got one
 
-row_few : (n m : ℕ) (c : Condition) (k : Known) (others certs : Certificates) → length others ≤ m → IsSavedRow n c k.end others certs → length certs ≤ suc m
-row_few n m c k others certs few (entry steps h is) = let same = ap (λ (ds : Certificates). length ds) is in omega (arith, same, few)
-row_few n m c k others certs few (no_entry un is) = let same = ap (λ (ds : Certificates). length ds) is in omega (arith, same, few)
+row_few : (es : Entries) (n m : ℕ) (c : Condition) (k : Known) (others certs : Certificates) → length others ≤ m → IsSavedRow es n c k.end others certs → length certs ≤ suc m
+row_few es n m c k others certs few (entry steps h w is) = let same = ap (λ (ds : Certificates). length ds) is in omega (arith, same, few)
+row_few es n m c k others certs few (no_entry un is) = let same = ap (λ (ds : Certificates). length ds) is in omega (arith, same, few)
 
-saved_few : (n : ℕ) (cs : List Condition) (ks : List Known) (certs : Certificates) → AreSaved n cs ks certs → length certs ≤ length cs
-saved_few n [] [] certs h = let same = ap (λ (ds : Certificates). length ds) h in omega (arith, same)
-saved_few n [] (k ∷ ks) certs h = absurd h
-saved_few n (c ∷ cs) [] certs h = absurd h
-saved_few n (c ∷ cs) (k ∷ ks) certs h = row_few n (length cs) c k h.0 certs (saved_few (n + 1) cs ks h.0 h.2) h.1
+saved_few : (es : Entries) (n : ℕ) (cs : List Condition) (ks : List Known) (certs : Certificates) → AreSaved es n cs ks certs → length certs ≤ length cs
+saved_few es n [] [] certs h = let same = ap (λ (ds : Certificates). length ds) h in omega (arith, same)
+saved_few es n [] (k ∷ ks) certs h = absurd h
+saved_few es n (c ∷ cs) [] certs h = absurd h
+saved_few es n (c ∷ cs) (k ∷ ks) certs h = row_few es n (length cs) c k h.0 certs (saved_few es (n + 1) cs ks h.0 h.2) h.1
 
-all_entered : (n : ℕ) (cs : List Condition) (ks : List Known) (certs : Certificates) → AreSaved n cs ks certs → length certs ≡ length cs → AreSpelled cs → AreEntered n cs certs
-all_entered n [] [] certs h many spelled = h
-all_entered n [] (k ∷ ks) certs h many spelled = absurd h
-all_entered n (c ∷ cs) [] certs h many spelled = absurd h
-all_entered n (c ∷ cs) (k ∷ ks) certs h many spelled = by (λ others rest long. all_entered (n + 1) cs ks others rest long spelled.1) h.0 h.1 h.2
+all_entered : (es : Entries) (n : ℕ) (cs : List Condition) (ks : List Known) (certs : Certificates) → AreSaved es n cs ks certs → length certs ≡ length cs → AreSpelled cs → AreEntered n cs certs
+all_entered es n [] [] certs h many spelled = h
+all_entered es n [] (k ∷ ks) certs h many spelled = absurd h
+all_entered es n (c ∷ cs) [] certs h many spelled = absurd h
+all_entered es n (c ∷ cs) (k ∷ ks) certs h many spelled = by (λ others rest long. all_entered es (n + 1) cs ks others rest long spelled.1) h.0 h.1 h.2
   where
-    by : ((others : Certificates) → AreSaved (n + 1) cs ks others → length others ≡ length cs → AreEntered (n + 1) cs others) → (others : Certificates) → IsSavedRow n c k.end others certs → AreSaved (n + 1) cs ks others → AreEntered n (c ∷ cs) certs
-    by later others (entry steps g is) rest =
+    by : ((others : Certificates) → AreSaved es (n + 1) cs ks others → length others ≡ length cs → AreEntered (n + 1) cs others) → (others : Certificates) → IsSavedRow es n c k.end others certs → AreSaved es (n + 1) cs ks others → AreEntered n (c ∷ cs) certs
+    by later others (entry steps g w is) rest =
         let long : suc (length others) ≡ suc (length cs) = sym (ap (λ (ds : Certificates). length ds) is) ∙ many in
         subst (AreEntered n (c ∷ cs)) (sym is)
-        (refl, record { formulas = spelled.0; valid = g.valid; trees = valid_is_one_tree c steps g.valid; writable = g.writable }, later others rest (omega (arith, long)))
-    by later others (no_entry un is) rest = let few = saved_few (n + 1) cs ks others rest in let long = ap (λ (ds : Certificates). length ds) is in absurd (omega (arith, few, long, many))
+        (refl, record { formulas = spelled.0; valid = renewed_valid es c k.end steps g; trees = valid_is_one_tree c steps (renewed_valid es c k.end steps g); writable = w }, later others rest (omega (arith, long)))
+    by later others (no_entry un is) rest = let few = saved_few es (n + 1) cs ks others rest in let long = ap (λ (ds : Certificates). length ds) is in absurd (omega (arith, few, long, many))
 
 -- ---- where all are kept
 
@@ -56,9 +65,41 @@ all_whole es budget [] (k ∷ ks) all h = absurd h
 all_whole es budget (c ∷ cs) [] all h = absurd h
 all_whole es budget (c ∷ cs) (k ∷ ks) all h = one_whole es budget c cs k ks all h.0 (all_whole es budget cs ks (λ d among. all d (inr among)) h.1)
 
+-- ---- texts tell the conditions of a program
+
+-- the formulas of each can be written
+spelled_each : (cs : List Condition) (c : Condition) → AreSpelled cs → IsAmong c cs → AreFormulas (c.hyps ++ c.goal ∷ [])
+spelled_each [] c h among = absurd among
+spelled_each (d ∷ cs) c h (inl is) = subst (λ (x : Condition). AreFormulas (x.hyps ++ x.goal ∷ [])) (sym is) h.0
+spelled_each (d ∷ cs) c h (inr there) = spelled_each cs c h.1 there
+
+module _ {N : Type 0} (s : Setting N) where
+  -- the named types that formulas mention, with what they stand for
+  types_by : List Term → Term → List Entry
+  types_by hyps goal = map (unfolded s) (rising_among (mentioned s (length s.types) (tests_in_all (hyps ++ goal ∷ []))) 0 (length s.types))
+
+  types_are : (os : List Owed) (c : Condition) → IsAmong c (map (with_types s) os) → c.types ≡ types_by c.hyps c.goal
+  unfolding types_by
+  types_are [] c among = absurd among
+  types_are (o ∷ os) c (inl is) = subst (λ (x : Condition). x.types ≡ types_by x.hyps x.goal) (sym is) refl
+  types_are (o ∷ os) c (inr there) = types_are os c there
+
+  all_told : FormulasAreTold → (os : List Owed) → AreSpelled (map (with_types s) os) → AreTold (map (with_types s) os)
+  all_told tell os spelled c d in_c in_d same =
+      let cs = map (with_types s) os in
+      let both = texts_tell tell c d (spelled_each cs c spelled in_c) (spelled_each cs d spelled in_d) same in
+      let types : c.types ≡ d.types = types_are os c in_c ∙ ap (λ (hyps : List Term). types_by hyps c.goal) both.0 ∙ ap (types_by d.hyps) both.1 ∙ sym (types_are os d in_d) in
+      ap (λ (hyps : List Term). made hyps c.goal c.types) both.0 ∙ ap (λ (goal : Term). made d.hyps goal c.types) both.1 ∙ ap (made d.hyps d.goal) types
+    where
+      made : List Term → Term → List Entry → Condition
+      made hyps goal types = record { hyps = hyps; goal = goal; types = types }
+
+-- ---- the law
+
 pub renewed_keeps_all : RenewedKeepsAll
-renewed_keeps_all p budget es text f full spelled told ds read other ks seen =
+renewed_keeps_all p budget es text f full spelled tell ds read other ks seen =
     let cs = conditions_of p in
-    let entered = all_entered 1 cs f.verdicts f.certificates f.saved full.each spelled in
+    let told = all_told (setting_of (numbered_core p.core) p.flow) tell (what_is_owed p.core p.flow) spelled in
+    let entered = all_entered es 1 cs f.verdicts f.certificates f.saved full.each spelled in
     let w = all_whole ds other cs ks (keeps_what_is_written cs f.certificates text ds entered told f.is full.fits read) seen in
     (w.many, w.closed)

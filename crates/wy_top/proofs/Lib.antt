@@ -20,6 +20,7 @@ pub mod FoundLemmas
 pub mod GivenLemmas
 -- what is kept of a cache, and what is saved of it
 pub mod TakenLemmas
+pub mod OthersLemmas
 pub mod CachingLemmas
 pub mod RenewLemmas
 pub mod RepeatLemmas

@@ -3,7 +3,7 @@ use Rattle.std.proofs.Common.{◌≡◌, ◌∙◌, ◌+◌, ◌<◌, ◌≤◌,
 use Rattle.std.proofs.lemmas.List.{append-nil, map-append, reverse-append, reverse-reverse}
 use Rattle.std.proofs.lemmas.List.Elements.{All-append, All-cons, All-head, All-nil, All-tail}
 use Rattle.std.specs.Prelude.{IfOk, IfSome, Result, Ok, Err, reverse}
-use Rattle.wy_batch.specs.Known.{End, IsSearched, Known, end_of, found, is_closed, is_found, supplied}
+use Rattle.wy_batch.specs.Known.{End, IsSearched, Known, end_of, found, is_closed, is_found, spent, stays_open, supplied}
 use Rattle.wy_batch.specs.Seen.{known}
 use Rattle.wy_batch.specs.declared.verdict.Verdict.{Verdict}
 use Rattle.wy_cache.proofs.KeptLemmas.{drop_mapped, none_dropped}
@@ -17,8 +17,8 @@ use Rattle.wy_prove_writable.specs.Writable.{AreWritable}
 use Rattle.wy_term.specs.Condition.{Condition}
 use Rattle.wy_term.specs.declared.cond.Cond.{Cond}
 use Rattle.wy_top_probe.specs.wy_top_answers.wy_check_spec.valid.Validity.{IsValid}
-use Rattle.wy_top.specs.Caches.{AreSaved, IsMade, IsRenewed, IsSavedRow, IsUnspelled, entry, is_kept, no_entry}
-use Rattle.wy_top.specs.Taken.{AreSomeTaken, AreTaken, TakesRow, not_taken, taken, waiting}
+use Rattle.wy_top.specs.Caches.{AreSaved, IsMade, entry, is_kept, no_entry}
+use Rattle.wy_top.specs.Taken.{AreTaken, TakesRow, not_taken, taken, waiting}
 use Rattle.wy_top.proofs.FoundLemmas.{pair_of, some_cert}
 use Rattle.wy_top.proofs.TakenLemmas.{never_kept}
 
@@ -61,15 +61,15 @@ never_supplied c budget e h is = let kept : is_kept (end_of h.verdict) ≡ true 
     apart false e f = cc
 
 module _ (es : Entries) (budget n : ℕ) (c : Condition) (k : Known) (cs : List Condition) (ks : List Known) where
-  -- it is kept: its certificate comes first of those that wait, and is valid
+  -- it is kept: its certificate comes first of those that wait
   pub record IsPopped (x : ℕ × Cert) (new : List (ℕ × Cert)) : Type 0 where
-    pub valid : IsValid c (steps_of x.1)
+    pub kept : IsKept es c (steps_of x.1)
     pub rest : AreTaken es budget (n + 1) cs ks (waiting new)
 
   popped_row : (x : ℕ × Cert) (new : List (ℕ × Cert)) (others : Certificates) → k.end ≡ supplied → TakesRow es budget n c k others (pair_of x ∷ waiting new) → AreTaken es budget (n + 1) cs ks others → IsPopped x new
   popped_row x new others end (taken steps h bad e is) rest =
       let same = head_of x.0 n (steps_of x.1) steps (waiting new) others is in
-      record { valid = subst (IsValid c) (sym same.0) h.valid; rest = subst (AreTaken es budget (n + 1) cs ks) (sym same.1) rest }
+      record { kept = subst (IsKept es c) (sym same.0) h; rest = subst (AreTaken es budget (n + 1) cs ks) (sym same.1) rest }
   popped_row x new others end (not_taken never bad e is) rest = absurd (never_supplied c budget k.end e end)
 
   pub popped : (old new : List (ℕ × Cert)) (x : ℕ × Cert) → old ≡ new ++ x ∷ [] → k.end ≡ supplied → AreTaken es budget n (c ∷ cs) (k ∷ ks) (waiting old) → IsPopped x new
@@ -105,34 +105,41 @@ found_with c budget (search.found leaves) is e = (leaves, is)
 found_with c budget (search.open_leaf leaf why literals) is e = absurd cc
 found_with c budget search.spent is e = absurd cc
 
-pub found_made : (c : Condition) (budget : ℕ) (e : End) (o : Option Cert) → is_found e ≡ true → is_closed e ≡ true → IsSearched c budget e → AnswersWhatIsFound c budget o
-    → IfSome o (λ cert. IsValid c (steps_of cert)) → IfSome o (λ cert. AreWritable (steps_of cert)) → IsMade c e o
-found_made c budget e (Some cert) is closed h exactly valid writable = record { closed = closed; valid = valid; writable = writable }
-found_made c budget e None is closed h exactly valid writable = λ _.
-    let un = exactly (found_with c budget h.verdict h.searched (subst (λ (x : End). is_found x ≡ true) h.is is)) in
-    record { steps = un.steps; valid = un.valid; unspelled = un.unwritable }
+pub found_made : (es : Entries) (c : Condition) (budget : ℕ) (e : End) (o : Option Cert) → is_found e ≡ true → IsSearched c budget e → AnswersWhatIsFound c budget o
+    → IfSome o (λ cert. IsValid c (steps_of cert)) → IfSome o (λ cert. AreWritable (steps_of cert)) → IsMade es c e o
+found_made es c budget (found leaves) (Some cert) is h exactly valid writable = (valid, writable)
+found_made es c budget (found leaves) None is h exactly valid writable = exactly (found_with c budget h.verdict h.searched (subst (λ (x : End). is_found x ≡ true) h.is is))
+found_made es c budget supplied o is h exactly valid writable = absurd cc
+found_made es c budget (stays_open leaf why literals) o is h exactly valid writable = absurd cc
+found_made es c budget spent o is h exactly valid writable = absurd cc
 
-pub other_made : (c : Condition) (e : End) → is_closed e ≡ false → IsMade c e None
-other_made c e apart = λ closed. absurd (cc)
+pub other_made : (es : Entries) (c : Condition) (e : End) → is_closed e ≡ false → IsMade es c e None
+other_made es c supplied apart = absurd cc
+other_made es c (found leaves) apart = absurd cc
+other_made es c (stays_open leaf why literals) apart = tt
+other_made es c spent apart = tt
+
+pub kept_made : (es : Entries) (c : Condition) (e : End) (cert : Cert) → e ≡ supplied → IsKept es c (steps_of cert) → AreWritable (steps_of cert) → IsMade es c e (Some cert)
+kept_made es c e cert end h writable = subst (λ (x : End). IsMade es c x (some_cert cert)) (sym end) (h, writable)
 
 -- ---- the list of a cache
 
 -- what may follow those that are done
-abbrev pub Follows : (Certificates → Type 0) → ℕ → List Condition → List Known → Certificates → Type 0
-Follows whole n cs ks done = (others : Certificates) → AreSaved n cs ks others → whole (done ++ others)
+abbrev pub Follows : Entries → (Certificates → Type 0) → ℕ → List Condition → List Known → Certificates → Type 0
+Follows es whole n cs ks done = (others : Certificates) → AreSaved es n cs ks others → whole (done ++ others)
 
-module _ (whole : Certificates → Type 0) (n : ℕ) (c : Condition) (k : Known) (cs : List Condition) (ks : List Known) (done : Certificates) where
-  saves_one : (cert : Cert) → IsMade c k.end (Some cert) → Follows whole n (c ∷ cs) (k ∷ ks) done → Follows whole (n + 1) cs ks (done ++ (n, steps_of cert) ∷ [])
-  saves_one cert made so_far others h = subst whole (sym (append_assoc done ((n, steps_of cert) ∷ []) others)) (so_far ((n, steps_of cert) ∷ others) (others, entry (steps_of cert) made refl, h))
+module _ (es : Entries) (whole : Certificates → Type 0) (n : ℕ) (c : Condition) (k : Known) (cs : List Condition) (ks : List Known) (done : Certificates) where
+  saves_one : (cert : Cert) → IsMade es c k.end (Some cert) → Follows es whole n (c ∷ cs) (k ∷ ks) done → Follows es whole (n + 1) cs ks (done ++ (n, steps_of cert) ∷ [])
+  saves_one cert made so_far others h = subst whole (sym (append_assoc done ((n, steps_of cert) ∷ []) others)) (so_far ((n, steps_of cert) ∷ others) (others, entry (steps_of cert) made.0 made.1 refl, h))
 
-  pub saves_none : (o : Option Cert) → o ≡ None → IsMade c k.end o → Follows whole n (c ∷ cs) (k ∷ ks) done → Follows whole (n + 1) cs ks done
-  saves_none o is made so_far others h = so_far others (others, no_entry (subst (IsMade c k.end) is made) refl, h)
+  pub saves_none : (o : Option Cert) → o ≡ None → IsMade es c k.end o → Follows es whole n (c ∷ cs) (k ∷ ks) done → Follows es whole (n + 1) cs ks done
+  saves_none o is made so_far others h = so_far others (others, no_entry (subst (IsMade es c k.end) is made) refl, h)
 
-module _ (whole : Certificates → Type 0) (n : ℕ) (c : Condition) (k : Known) (cs : List Condition) (ks : List Known) (list new : List (ℕ × Cert)) where
-  pub saves_some : (cert : Cert) (o : Option Cert) → o ≡ some_cert cert → new ≡ list ++ (n, cert) ∷ [] → IsMade c k.end o → Follows whole n (c ∷ cs) (k ∷ ks) (map pair_of list) → Follows whole (n + 1) cs ks (map pair_of new)
+module _ (es : Entries) (whole : Certificates → Type 0) (n : ℕ) (c : Condition) (k : Known) (cs : List Condition) (ks : List Known) (list new : List (ℕ × Cert)) where
+  pub saves_some : (cert : Cert) (o : Option Cert) → o ≡ some_cert cert → new ≡ list ++ (n, cert) ∷ [] → IsMade es c k.end o → Follows es whole n (c ∷ cs) (k ∷ ks) (map pair_of list) → Follows es whole (n + 1) cs ks (map pair_of new)
   saves_some cert o is pushed made so_far =
-      subst (Follows whole (n + 1) cs ks) (sym (ap (map pair_of) pushed ∙ map-append pair_of list ((n, cert) ∷ [])))
-      (saves_one whole n c k cs ks (map pair_of list) cert (subst (IsMade c k.end) is made) so_far)
+      subst (Follows es whole (n + 1) cs ks) (sym (ap (map pair_of) pushed ∙ map-append pair_of list ((n, cert) ∷ [])))
+      (saves_one es whole n c k cs ks (map pair_of list) cert (subst (IsMade es c k.end) is made) so_far)
 
 -- ---- turns
 
@@ -149,17 +156,17 @@ module _ (of : Cond → Condition) (conds : List Cond) (vs : List Verdict) (i : 
       subst (λ (ds : List Condition). P ds (known v ∷ ks)) (drop_mapped of conds i cond lc at)
       (subst (λ (ls : List Known). P (drop i (map of conds)) ls) (drop_mapped known vs i v lv there) h)
 
-  pub next_taken : (budget : ℕ) (certs : Certificates) → AreSomeTaken budget (i + 1) (drop i (map of conds)) (drop i (map known vs)) certs → AreSomeTaken budget (i + 1) (of cond ∷ cs) (known v ∷ ks) certs
-  next_taken budget certs h = parted (λ ds ls. AreSomeTaken budget (i + 1) ds ls certs) h
+  pub next_taken : (es : Entries) (budget : ℕ) (certs : Certificates) → AreTaken es budget (i + 1) (drop i (map of conds)) (drop i (map known vs)) certs → AreTaken es budget (i + 1) (of cond ∷ cs) (known v ∷ ks) certs
+  next_taken es budget certs h = parted (λ ds ls. AreTaken es budget (i + 1) ds ls certs) h
 
-  pub next_follows : (whole : Certificates → Type 0) (done : Certificates) → Follows whole (i + 1) (drop i (map of conds)) (drop i (map known vs)) done → Follows whole (i + 1) (of cond ∷ cs) (known v ∷ ks) done
-  next_follows whole done h = parted (λ ds ls. Follows whole (i + 1) ds ls done) h
+  pub next_follows : (es : Entries) (whole : Certificates → Type 0) (done : Certificates) → Follows es whole (i + 1) (drop i (map of conds)) (drop i (map known vs)) done → Follows es whole (i + 1) (of cond ∷ cs) (known v ∷ ks) done
+  next_follows es whole done h = parted (λ ds ls. Follows es whole (i + 1) ds ls done) h
 
 -- behind the last one nothing follows
-pub none_follows : (whole : Certificates → Type 0) (of : Cond → Condition) (conds : List Cond) (vs : List Verdict) (i : ℕ) (done : Certificates) → length conds ≤ i → length vs ≤ i
-    → Follows whole (i + 1) (drop i (map of conds)) (drop i (map known vs)) done → whole done
-none_follows whole of conds vs i done lc lv h =
-    let ended : Follows whole (i + 1) [] [] done =
-    subst (λ (ds : List Condition). Follows whole (i + 1) ds [] done) (none_dropped of conds i lc)
-    (subst (λ (ls : List Known). Follows whole (i + 1) (drop i (map of conds)) ls done) (none_dropped known vs i lv) h) in
+pub none_follows : (es : Entries) (whole : Certificates → Type 0) (of : Cond → Condition) (conds : List Cond) (vs : List Verdict) (i : ℕ) (done : Certificates) → length conds ≤ i → length vs ≤ i
+    → Follows es whole (i + 1) (drop i (map of conds)) (drop i (map known vs)) done → whole done
+none_follows es whole of conds vs i done lc lv h =
+    let ended : Follows es whole (i + 1) [] [] done =
+    subst (λ (ds : List Condition). Follows es whole (i + 1) ds [] done) (none_dropped of conds i lc)
+    (subst (λ (ls : List Known). Follows es whole (i + 1) (drop i (map of conds)) ls done) (none_dropped known vs i lv) h) in
     subst whole (append-nil done) (ended [] refl)

@@ -8,12 +8,12 @@ use Rattle.wy_batch.specs.Seen.{known}
 use Rattle.wy_batch.specs.declared.verdict.Verdict.{Verdict}
 use Rattle.wy_batch.specs.wy_check.Within.{IsWithin}
 use Rattle.wy_cache.specs.Cached.{rows_of}
-use Rattle.wy_cache.specs.Kept.{AreKept}
 use Rattle.wy_cache_text.specs.Files.{Entries}
 use Rattle.wy_cache_text.specs.Written.{IsLongest}
-use Rattle.wy_cert.specs.Steps.{Certificates, certificates_of, steps_of}
+use Rattle.wy_cert.specs.Steps.{Certificates, NamesItsTerms, certificates_of, steps_of}
 use Rattle.wy_cert.specs.declared.step.Cert.{Cert}
 use Rattle.wy_cert.specs.declared.step.Certs.{Certs}
+use Rattle.wy_prove_writable.specs.Writable.{AreWritable}
 use Rattle.wy_term.specs.Condition.{Condition, condition_of}
 use Rattle.wy_term.specs.Nodes.{Plain, tree_at}
 use Rattle.wy_term.specs.declared.cond.Cond.{Cond}
@@ -29,11 +29,11 @@ use Rattle.wy_vc.specs.wy_vc_spec.Limits.{most_conditions}
 use Rattle.wy_top.specs.Acceptance.{are_closed}
 use Rattle.wy_top.specs.Again.{IsCacheOf, IsRenewal, renewal_answer, renews}
 use Rattle.wy_top.specs.Caches.{AreSaved, AreSeen, is_kept}
-use Rattle.wy_top.specs.Kept.{AreEach, AreKeptOf, HasVerdicts, IsKept}
+use Rattle.wy_top.specs.Kept.{AreEach, HasSomeTaken, HasTaken, IsKept}
 use Rattle.wy_top.specs.Programs.{Program, conditions_of}
-use Rattle.wy_top.specs.Taken.{AreTaken}
+use Rattle.wy_top.specs.Taken.{AreTaken, IsWritten}
 use Rattle.wy_top.specs.declared.judging.Judged.{Judged}
-use Rattle.wy_top.proofs.TakenLemmas.{count_within, kept_taken, one_seen, taken_count, taken_seen}
+use Rattle.wy_top.proofs.TakenLemmas.{count_within, one_seen, taken_count, taken_seen}
 
 -- ---- what is owed stays
 
@@ -65,42 +65,47 @@ kept_still typed old new h lists same stay =
 
 -- ---- what is known of it
 
-module _ (p : Program) (j : Judged) (budget : ℕ) (es : Entries) (certs : Certificates) (h : HasVerdicts p certs budget j) (are : AreKept es 1 (conditions_of p) certs) where
-  taken_here : AreTaken es budget 1 (conditions_of p) (map known j.verdicts.items) certs
-  taken_here = kept_taken es budget (conditions_of p) (map known j.verdicts.items) certs are h.known
-
-  pub kept_of : AreKeptOf j budget certs
-  kept_of = record { entries = es; taken = subst (λ (cs : List Condition). AreTaken es budget 1 cs (map known j.verdicts.items) certs) (sym h.conditions) taken_here }
-
+module _ (p : Program) (es : Entries) (certs : Certificates) (budget : ℕ) (j : Judged) (h : HasTaken es p certs budget j) where
   pub seen_of : AreSeen es budget (conditions_of p) (map known j.verdicts.items)
-  seen_of = taken_seen es budget 1 (conditions_of p) (map known j.verdicts.items) certs taken_here
+  seen_of = taken_seen es budget 1 (conditions_of p) (map known j.verdicts.items) certs h.known
 
-pub saved_here : (j : Judged) (conds : List Cond) (vs : List Verdict) (made : Certificates) → conds ≡ j.conds.list.items → vs ≡ j.verdicts.items → AreSaved 1 (map (condition_of j.conds.terms) conds) (map known vs) made
-    → AreSaved 1 (map (condition_of j.conds.terms) j.conds.list.items) (map known j.verdicts.items) made
-saved_here j conds vs made is are h =
-    subst (λ (cs : List Cond). AreSaved 1 (map (condition_of j.conds.terms) cs) (map known j.verdicts.items) made) is
-    (subst (λ (ws : List Verdict). AreSaved 1 (map (condition_of j.conds.terms) conds) (map known ws) made) are h)
+  pub taken_here : (conds : List Cond) (vs : List Verdict) → conds ≡ j.conds.list.items → vs ≡ j.verdicts.items → AreTaken es budget 1 (map (condition_of j.conds.terms) conds) (map known vs) certs
+  taken_here conds vs is are =
+      subst (λ (cs : List Cond). AreTaken es budget 1 (map (condition_of j.conds.terms) cs) (map known vs) certs) (sym is)
+      (subst (λ (ws : List Verdict). AreTaken es budget 1 (map (condition_of j.conds.terms) j.conds.list.items) (map known ws) certs) (sym are)
+      (subst (λ (cs : List Condition). AreTaken es budget 1 cs (map known j.verdicts.items) certs) (sym h.conditions) h.known))
 
--- what is written of what was saved is a cache of it, with the terms that were made meanwhile
-pub cached_as : (p : Program) (certs made : Certificates) (budget : ℕ) (es : Entries) (j : Judged) (nodes : List Plain) (text : List ℕ) → AreEach j → HasVerdicts p certs budget j → AreSeen es budget (conditions_of p) (map known j.verdicts.items)
-    → length nodes ≡ length j.conds.terms → ((t : ℕ) → t < length j.conds.terms → tree_at nodes t ≡ tree_at j.conds.terms t)
-    → AreSaved 1 (map (condition_of j.conds.terms) j.conds.list.items) (map known j.verdicts.items) made → IsLongest (rows_of (map (condition_of nodes) j.conds.list.items) made) text → IsCacheOf p budget es text
-cached_as p certs made budget es j nodes text each h seen same stay saved is = record {
-  verdicts = map known j.verdicts.items;
-  seen = seen;
-  certificates = made;
-  saved = subst (λ (cs : List Condition). AreSaved 1 cs (map known j.verdicts.items) made) h.conditions saved;
-  is = subst (λ (cs : List Condition). IsLongest (rows_of cs made) text) (same_conditions j.conds.terms nodes j.conds.list.items same stay each.within ∙ h.conditions) is;
-}
+  -- what is written of what was saved is a cache of it, with the terms that were made meanwhile
+  pub cached_as : (made : Certificates) (nodes : List Plain) (text : List ℕ) → AreEach j → length nodes ≡ length j.conds.terms → ((t : ℕ) → t < length j.conds.terms → tree_at nodes t ≡ tree_at j.conds.terms t)
+      → AreSaved es 1 (map (condition_of j.conds.terms) j.conds.list.items) (map known j.verdicts.items) made → IsLongest (rows_of (map (condition_of nodes) j.conds.list.items) made) text → IsCacheOf p budget es text
+  cached_as made nodes text each same stay saved is = record {
+    verdicts = map known j.verdicts.items;
+    seen = seen_of;
+    certificates = made;
+    saved = subst (λ (cs : List Condition). AreSaved es 1 cs (map known j.verdicts.items) made) h.conditions saved;
+    is = subst (λ (cs : List Condition). IsLongest (rows_of cs made) text) (same_conditions j.conds.terms nodes j.conds.list.items same stay each.within ∙ h.conditions) is;
+  }
+
+pub saved_here : (es : Entries) (j : Judged) (conds : List Cond) (vs : List Verdict) (made : Certificates) → conds ≡ j.conds.list.items → vs ≡ j.verdicts.items → AreSaved es 1 (map (condition_of j.conds.terms) conds) (map known vs) made
+    → AreSaved es 1 (map (condition_of j.conds.terms) j.conds.list.items) (map known j.verdicts.items) made
+saved_here es j conds vs made is are h =
+    subst (λ (cs : List Cond). AreSaved es 1 (map (condition_of j.conds.terms) cs) (map known j.verdicts.items) made) is
+    (subst (λ (ws : List Verdict). AreSaved es 1 (map (condition_of j.conds.terms) conds) (map known ws) made) are h)
 
 -- so many are kept
-pub kept_so_many : (j : Judged) (budget : ℕ) (kept : Certs) → AreKeptOf j budget (certificates_of kept) → length kept.list.items ≡ count is_kept (map known j.verdicts.items)
-kept_so_many j budget kept h = sym (length-map kept.list.items (λ (e : ℕ × Cert). (e.0, steps_of e.1))) ∙ taken_count h.entries budget 1 _ (map known j.verdicts.items) (certificates_of kept) h.taken
+pub kept_so_many : (kept : Certs) (budget : ℕ) (j : Judged) → HasSomeTaken (certificates_of kept) budget j → length kept.list.items ≡ count is_kept (map known j.verdicts.items)
+kept_so_many kept budget j h =
+    let taken = h.taken in
+    sym (length-map kept.list.items (λ (e : ℕ × Cert). (e.0, steps_of e.1))) ∙ taken_count h.entries budget 1 (conditions_of h.program) (map known j.verdicts.items) (certificates_of kept) taken.known
 
-pub kept_few : (j : Judged) (budget : ℕ) (kept : Certs) → AreEach j → AreKeptOf j budget (certificates_of kept) → length kept.list.items ≤ most_conditions
-kept_few j budget kept each h =
+pub kept_few : (kept : Certs) (budget : ℕ) (j : Judged) → AreEach j → HasSomeTaken (certificates_of kept) budget j → length kept.list.items ≤ most_conditions
+kept_few kept budget j each h =
     let within = count_within is_kept (map known j.verdicts.items) in
-    omega (arith, kept_so_many j budget kept h, within, length-map j.verdicts.items known, each.each, each.few)
+    omega (arith, kept_so_many kept budget j h, within, length-map j.verdicts.items known, each.each, each.few)
+
+-- each names its own terms and can be written
+pub all_written : (list : List (ℕ × Cert)) → All (λ (e : ℕ × Cert). NamesItsTerms e.1) list → All (λ (e : ℕ × Cert). AreWritable (steps_of e.1)) list → All (λ (e : ℕ × Cert). IsWritten e.1) list
+all_written list named writable i e lt = record { named = named i e lt; writable = writable i e lt }
 
 -- ---- the answer
 

@@ -1,9 +1,8 @@
 -- Which conditions are kept, and what is known of all of them then.
 use Rattle.std.proofs.Common.{◌≡◌, ◌∙◌, ◌<◌, ◌≤◌, ◌+◌, ℕ, suc, List, [], ◌∷◌, length, Bool, true, false, cond, Option, Some, None, refl, sym, ap, subst, arith}
-use Rattle.wy_batch.specs.Known.{AreKnown, End, EndsSo, IsKnown, IsSearched, Known, bad_step_of, count, end_of}
-use Rattle.wy_batch.specs.wy_check.Verdicts.{certificate_for, verdict_from, verdict_on}
-use Rattle.wy_batch.specs.wy_check.declared.verdict.Verdict.{Verdict as Given}
-use Rattle.wy_batch.specs.wy_check.declared.verdict.Verdict.TheVariants as given
+use Rattle.std.specs.Prelude.{◌==◌}
+use Rattle.std.proofs.lemmas.Bool.Decides.{nat_tests}
+use Rattle.wy_batch.specs.Known.{AreKnown, End, IsSearched, Known, count, end_of}
 use Rattle.wy_cache.specs.Kept.{AreKept, IsRow, kept, not_kept}
 use Rattle.wy_cache_text.specs.Files.{Entries}
 use Rattle.wy_cert.specs.Steps.{Certificates, Written}
@@ -12,8 +11,8 @@ use Rattle.wy_prove.specs.wy_search_spec.Tree as search
 use Rattle.wy_term.specs.Condition.{Condition}
 use Rattle.wy_top.specs.Caches.{AreSeen, IsSeen, is_kept, kept as seen_kept, searched as seen_searched}
 use Rattle.wy_top.specs.Found.{AreRising}
-use Rattle.wy_top.specs.Taken.{AreTaken, TakesRow, taken, not_taken}
-use Rattle.wy_top.proofs.GivenLemmas.{none_sooner, other_number, rising_sooner, same_number}
+use Rattle.wy_top.specs.Taken.{AreBeside, AreTaken, TakesRow, behind, beside, comes_next, first_before, known_kept, not_taken, others_of, taken}
+use Rattle.wy_top.proofs.GivenLemmas.{rising_sooner, same_number}
 
 -- ---- numbers rise
 
@@ -28,49 +27,57 @@ kept_rising : (es : Entries) (n : ℕ) (cs : List Condition) (certs : Certificat
 kept_rising es n [] certs h = subst (AreRising n) (sym h) tt
 kept_rising es n (c ∷ cs) certs h = row_rising es n c h.0 certs h.1 (kept_rising es (n + 1) cs h.0 h.2)
 
--- ---- one condition, and those behind it
+-- ---- those that are kept beside the others
 
-abbrev some_steps : List Written → Option (List Written)
-some_steps s = Some s
+later_number : (n m : ℕ) → n < m → (m == n) ≡ false
+later_number n m lt = grind (arith, nat_tests)
 
--- from this number on both have the same certificates
-abbrev AreThere : ℕ → Certificates → Certificates → Type 0
-AreThere n certs all = (m : ℕ) → n ≤ m → certificate_for all m ≡ certificate_for certs m
+-- none that comes later comes next
+none_next : (n : ℕ) (certs : Certificates) → AreRising (n + 1) certs → comes_next n certs ≡ false
+none_next n [] rising = refl
+none_next n (c ∷ cs) rising = later_number n c.0 (omega (arith, rising.0))
 
-record IsFirst (es : Entries) (budget n : ℕ) (c : Condition) (k : Known) (others certs all : Certificates) : Type 0 where
-  row : TakesRow es budget n c k others certs
-  there : AreThere (n + 1) others all
+module _ (es : Entries) (budget : ℕ) where
+  beside_row : (n m : ℕ) (c : Condition) (cs : List Condition) (ks : List Known) (others certs : Certificates) → IsRow es n c others certs → AreKept es (n + 1) cs others → AreKnown [] budget m (others_of n certs (c ∷ cs)) ks
+      → ((m : ℕ) (ls : List Known) → AreKnown [] budget m (others_of (n + 1) others cs) ls → AreTaken es budget (n + 1) cs (beside known_kept (n + 1) others (length cs) ls) others)
+      → AreTaken es budget n (c ∷ cs) (beside known_kept n certs (suc (length cs)) ks) certs
+  beside_row n m c cs ks others certs (kept steps h is) rest known later = subst Whole (sym is) at_once known
+    where
+      Whole : Certificates → Type 0
+      Whole ds = AreKnown [] budget m (others_of n ds (c ∷ cs)) ks → AreTaken es budget n (c ∷ cs) (beside known_kept n ds (suc (length cs)) ks) ds
 
-first_taken : (es : Entries) (budget n : ℕ) (c : Condition) (k : Known) (others certs all : Certificates) → IsRow es n c others certs → AreRising (n + 1) others → IsKnown all budget n c k → AreThere n certs all
-    → IsFirst es budget n c k others certs all
-first_taken es budget n c k others certs all (kept steps h is) rising known there =
-    let here : certificate_for all n ≡ some_steps steps = there n (omega arith) ∙ ap (λ (ds : Certificates). certificate_for ds n) is ∙ ap (λ (b : Bool). cond b (some_steps steps) (certificate_for others n)) (same_number n n refl) in
-    let verdict : verdict_on c (certificate_for all n) ≡ given.Supplied = ap (verdict_on c) here ∙ ap verdict_from h.valid in
-    record {
-      row = taken steps h (known.bad_step ∙ ap bad_step_of verdict) (subst (λ (v : Given). EndsSo c budget v k.end) verdict known.end) is;
-      there = λ m le.
-          there m (omega (arith, le)) ∙ ap (λ (ds : Certificates). certificate_for ds m) is
-          ∙ ap (λ (b : Bool). cond b (some_steps steps) (certificate_for others m)) (other_number n m (omega (arith, le)));
-    }
-first_taken es budget n c k others certs all (not_kept never is) rising known there =
-    let here : certificate_for all n ≡ None = there n (omega arith) ∙ ap (λ (ds : Certificates). certificate_for ds n) is ∙ none_sooner (n + 1) n others rising (omega arith) in
-    let verdict : verdict_on c (certificate_for all n) ≡ given.Missing = ap (verdict_on c) here in
-    record {
-      row = not_taken never (known.bad_step ∙ ap bad_step_of verdict) (subst (λ (v : Given). EndsSo c budget v k.end) verdict known.end) is;
-      there = λ m le. there m (omega (arith, le)) ∙ ap (λ (ds : Certificates). certificate_for ds m) is;
-    }
+      Either : Bool → Type 0
+      Either b =
+          AreKnown [] budget m (cond b (others_of (n + 1) others cs) (c ∷ others_of (n + 1) ((n, steps) ∷ others) cs)) ks
+          → AreTaken es budget n (c ∷ cs) (cond b (known_kept ∷ beside known_kept (n + 1) others (length cs) ks) (first_before ks (beside known_kept (n + 1) ((n, steps) ∷ others) (length cs) (behind ks)))) ((n, steps) ∷ others)
 
-all_taken : (es : Entries) (budget n : ℕ) (cs : List Condition) (ks : List Known) (certs all : Certificates) → AreKept es n cs certs → AreKnown all budget n cs ks → AreThere n certs all → AreTaken es budget n cs ks certs
-all_taken es budget n [] [] certs all h known there = h
-all_taken es budget n [] (k ∷ ks) certs all h known there = absurd known
-all_taken es budget n (c ∷ cs) [] certs all h known there = absurd known
-all_taken es budget n (c ∷ cs) (k ∷ ks) certs all h known there =
-    let one = first_taken es budget n c k h.0 certs all h.1 (kept_rising es (n + 1) cs h.0 h.2) known.0 there in
-    (h.0, one.row, all_taken es budget (n + 1) cs ks h.0 all h.2 known.1 one.there)
+      at_once : Whole ((n, steps) ∷ others)
+      at_once = subst Either (sym (same_number n n refl)) (λ all. (others, taken steps h refl refl refl, later m ks all))
+  beside_row n m c cs ks others certs (not_kept never is) rest known later = subst Either (sym here) (λ all. by ks all) known
+    where
+      here : comes_next n certs ≡ false
+      here = ap (comes_next n) is ∙ none_next n others (kept_rising es (n + 1) cs others rest)
 
--- where the certificates that are kept are supplied, what is known of a condition is that it is kept, or else what its search ends in
-pub kept_taken : (es : Entries) (budget : ℕ) (cs : List Condition) (ks : List Known) (certs : Certificates) → AreKept es 1 cs certs → AreKnown certs budget 1 cs ks → AreTaken es budget 1 cs ks certs
-kept_taken es budget cs ks certs h known = all_taken es budget 1 cs ks certs certs h known (λ m le. refl)
+      Either : Bool → Type 0
+      Either b =
+          AreKnown [] budget m (cond b (others_of (n + 1) (behind certs) cs) (c ∷ others_of (n + 1) certs cs)) ks
+          → AreTaken es budget n (c ∷ cs) (cond b (known_kept ∷ beside known_kept (n + 1) (behind certs) (length cs) ks) (first_before ks (beside known_kept (n + 1) certs (length cs) (behind ks)))) certs
+
+      by : (ls : List Known) → AreKnown [] budget m (c ∷ others_of (n + 1) certs cs) ls → AreTaken es budget n (c ∷ cs) (first_before ls (beside known_kept (n + 1) certs (length cs) (behind ls))) certs
+      by [] all = absurd all
+      by (l ∷ ls) all =
+          let first = all.0 in
+          (others, not_taken never first.bad_step first.end is,
+          subst (λ (ds : Certificates). AreTaken es budget (n + 1) cs (beside known_kept (n + 1) ds (length cs) ls) others) (sym is)
+          (later (m + 1) ls (subst (λ (ds : Certificates). AreKnown [] budget (m + 1) (others_of (n + 1) ds cs) ls) is all.1)))
+
+  beside_taken : (n m : ℕ) (cs : List Condition) (certs : Certificates) (ks : List Known) → AreKept es n cs certs → AreKnown [] budget m (others_of n certs cs) ks → AreTaken es budget n cs (beside known_kept n certs (length cs) ks) certs
+  beside_taken n m [] certs ks h known = h
+  beside_taken n m (c ∷ cs) certs ks h known = beside_row n m c cs ks h.0 certs h.1 h.2 known (λ j ls all. beside_taken (n + 1) j cs h.0 ls h.2 all)
+
+-- what is known of the others, with those that are kept
+pub are_taken : (es : Entries) (budget : ℕ) (cs : List Condition) (ks : List Known) (certs : Certificates) → AreKept es 1 cs certs → AreBeside budget certs cs ks → AreTaken es budget 1 cs ks certs
+are_taken es budget cs ks certs h all = subst (λ (ls : List Known). AreTaken es budget 1 cs ls certs) (sym all.are) (beside_taken es budget 1 1 cs certs all.others h all.known)
 
 -- ---- what is known
 

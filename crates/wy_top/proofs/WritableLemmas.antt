@@ -2,6 +2,7 @@
 use Rattle.std.proofs.Common.{◌≡◌, ◌<◌, ◌≤◌, ◌+◌, ◌^◌, ℕ, suc, List, [], ◌∷◌, ◌++◌, length, Bool, false, refl, sym, ap, ◌∙◌, subst, arith}
 use Rattle.std.specs.Prelude.{◌==◌, ◌||◌, Ok}
 use Rattle.std.proofs.lemmas.Bool.Decides.{nat_tests}
+use Rattle.wy_cache_text.specs.Files.{Entries}
 use Rattle.wy_cert.specs.File.{ReadsFile, is_listed}
 use Rattle.wy_cert.specs.Steps.{Certificates, Written}
 use Rattle.wy_cert.specs.writing.Text.{file_text}
@@ -9,7 +10,8 @@ use Rattle.wy_prove.specs.wy_prove_writable.Writable.{AreWritableBehind}
 use Rattle.wy_prove.proofs.wy_prove_writable_proofs.RereadLemmas.{written_is_read}
 use Rattle.wy_term.specs.Condition.{Condition}
 use Rattle.wy_prove.proofs.wy_prove_writable_proofs.TreeLemmas.{valid_is_one_tree}
-use Rattle.wy_top.specs.Caches.{AreSaved, IsSavedRow, entry, no_entry}
+use Rattle.wy_top_probe.specs.wy_top_answers.wy_check_spec.valid.Validity.{IsValid}
+use Rattle.wy_top.specs.Caches.{AreSaved, IsRenewed, IsSavedRow, entry, no_entry}
 use Rattle.wy_top.specs.Found.{AreFor, Begin, Shows}
 use Rattle.wy_batch.specs.Known.{End, Known, found, spent, stays_open, supplied}
 
@@ -62,22 +64,28 @@ for_writable conds n (c ∷ cs) (k ∷ ks) done certs first last few sooner h =
     (λ more ds lt g. for_writable conds (suc n) cs ks more ds (omega arith) (omega (arith, last)) few lt g) h
 
 -- those that are saved
-row_writable : (conds n : ℕ) (c : Condition) (e : End) (done others certs : Certificates) → 0 < n → n ≤ conds → conds < 2 ^ 32 → AreSooner n done
-    → ((more : Certificates) → AreSooner (n + 1) more → AreWritableBehind conds more others) → IsSavedRow n c e others certs → AreWritableBehind conds done certs
-row_writable conds n c e done others certs first last few sooner later (entry steps h is) =
+pub renewed_valid : (es : Entries) (c : Condition) (e : End) (steps : List Written) → IsRenewed es c e steps → IsValid c steps
+renewed_valid es c supplied steps h = h.valid
+renewed_valid es c (found leaves) steps h = h
+renewed_valid es c (stays_open leaf why literals) steps h = absurd h
+renewed_valid es c spent steps h = absurd h
+
+row_writable : (es : Entries) (conds n : ℕ) (c : Condition) (e : End) (done others certs : Certificates) → 0 < n → n ≤ conds → conds < 2 ^ 32 → AreSooner n done
+    → ((more : Certificates) → AreSooner (n + 1) more → AreWritableBehind conds more others) → IsSavedRow es n c e others certs → AreWritableBehind conds done certs
+row_writable es conds n c e done others certs first last few sooner later (entry steps h w is) =
     subst (AreWritableBehind conds done) (sym is)
-    ((first, omega (arith, last, few)), last, not_listed n done sooner, valid_is_one_tree c steps h.valid, h.writable, later (done ++ (n, steps) ∷ []) (sooner_more (n + 1) done (n, steps) (sooner_later n (n + 1) done (omega arith) sooner) (omega arith)))
-row_writable conds n c e done others certs first last few sooner later (no_entry un is) = subst (AreWritableBehind conds done) (sym is) (later done (sooner_later n (n + 1) done (omega arith) sooner))
+    ((first, omega (arith, last, few)), last, not_listed n done sooner, valid_is_one_tree c steps (renewed_valid es c e steps h), w, later (done ++ (n, steps) ∷ []) (sooner_more (n + 1) done (n, steps) (sooner_later n (n + 1) done (omega arith) sooner) (omega arith)))
+row_writable es conds n c e done others certs first last few sooner later (no_entry un is) = subst (AreWritableBehind conds done) (sym is) (later done (sooner_later n (n + 1) done (omega arith) sooner))
 
-saved_from : (conds n : ℕ) (cs : List Condition) (ks : List Known) (done certs : Certificates) → 0 < n → n + length cs ≤ conds + 1 → conds < 2 ^ 32 → AreSooner n done → AreSaved n cs ks certs → AreWritableBehind conds done certs
-saved_from conds n [] [] done certs first last few sooner h = subst (AreWritableBehind conds done) (sym h) tt
-saved_from conds n [] (k ∷ ks) done certs first last few sooner h = absurd h
-saved_from conds n (c ∷ cs) [] done certs first last few sooner h = absurd h
-saved_from conds n (c ∷ cs) (k ∷ ks) done certs first last few sooner h =
-    row_writable conds n c k.end done h.0 certs first (omega (arith, last)) few sooner (λ more lt. saved_from conds (n + 1) cs ks more h.0 (omega arith) (omega (arith, last)) few lt h.2) h.1
+saved_from : (es : Entries) (conds n : ℕ) (cs : List Condition) (ks : List Known) (done certs : Certificates) → 0 < n → n + length cs ≤ conds + 1 → conds < 2 ^ 32 → AreSooner n done → AreSaved es n cs ks certs → AreWritableBehind conds done certs
+saved_from es conds n [] [] done certs first last few sooner h = subst (AreWritableBehind conds done) (sym h) tt
+saved_from es conds n [] (k ∷ ks) done certs first last few sooner h = absurd h
+saved_from es conds n (c ∷ cs) [] done certs first last few sooner h = absurd h
+saved_from es conds n (c ∷ cs) (k ∷ ks) done certs first last few sooner h =
+    row_writable es conds n c k.end done h.0 certs first (omega (arith, last)) few sooner (λ more lt. saved_from es conds (n + 1) cs ks more h.0 (omega arith) (omega (arith, last)) few lt h.2) h.1
 
-pub saved_writable : (cs : List Condition) (ks : List Known) (certs : Certificates) → length cs < 2 ^ 32 → AreSaved 1 cs ks certs → AreWritableBehind (length cs) [] certs
-saved_writable cs ks certs few h = saved_from (length cs) 1 cs ks [] certs (omega arith) (omega arith) few tt h
+pub saved_writable : (es : Entries) (cs : List Condition) (ks : List Known) (certs : Certificates) → length cs < 2 ^ 32 → AreSaved es 1 cs ks certs → AreWritableBehind (length cs) [] certs
+saved_writable es cs ks certs few h = saved_from es (length cs) 1 cs ks [] certs (omega arith) (omega arith) few tt h
 
 -- they are read for as many conditions as there are
 pub found_is_read : (cs : List Condition) (ks : List Known) (certs : Certificates) → length cs < 2 ^ 32 → AreFor 1 cs ks certs → ReadsFile (length cs) (file_text certs) (Ok certs)

@@ -53,12 +53,12 @@ renews_file s name cache budget = and_then (loads_alone s name) (renews_source s
 
 -- ---- what is saved
 
--- the text is a cache of as many of these entries as fit: one for each condition of the program that is closed, with a valid certificate
+-- the text is a cache of as many of these entries as fit: for each condition of the program that is kept, with the certificate that was kept; and for each that was found, with a valid one
 pub record IsCacheOf (p : Program) (budget : ℕ) (es : Entries) (text : List ℕ) : Type 0 where
   pub verdicts : List Known
   pub seen : AreSeen es budget (conditions_of p) verdicts
   pub certificates : Certificates
-  pub saved : AreSaved 1 (conditions_of p) verdicts certificates
+  pub saved : AreSaved es 1 (conditions_of p) verdicts certificates
   pub is : IsLongest (rows_of (conditions_of p) certificates) text
 
 -- it is one of the program, with the cache in this file

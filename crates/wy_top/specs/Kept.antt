@@ -16,13 +16,14 @@ use Rattle.wy_top_probe.specs.wy_top_source.wy_assign.Assigned.{IsAssigned}
 use Rattle.wy_vc.specs.wy_vc_spec.Limits.{most_conditions}
 use Rattle.wy_cert.specs.Steps.{Certificates}
 use Rattle.wy_top.specs.Owed.{Owes, told_by}
-use Rattle.wy_top.specs.Taken.{AreSomeTaken}
+use Rattle.wy_top.specs.Taken.{AreTaken}
 use Rattle.wy_top_probe.specs.wy_top_answers.wy_vc_laws.shown.Certified.{AllHold, AreFormed}
 use Rattle.wy_term.specs.Condition.{condition_of}
 use Rattle.wy_term.specs.Nodes.{Plain}
 use Rattle.wy_top_probe.specs.wy_flow_spec.typing.TypedPrograms.{core_of, flow_of}
 use Rattle.wy_vc.specs.Listed.{seen_conds}
 use Rattle.wy_vc.specs.Told.{seen_cond}
+use Rattle.wy_batch.specs.Known.{Known}
 use Rattle.wy_batch.specs.Seen.{NameTerms, known}
 
 -- the program that is kept
@@ -61,18 +62,28 @@ pub record SpellsConditions (p : Program) (j : Judged) : Type 0 where
   pub nodes : List Plain
   pub told : map (seen_cond nodes) j.conds.list.items ≡ told_by p.core p.flow
 
--- the verdicts are those on the conditions of the program, where these certificates are supplied
-pub record HasVerdicts (p : Program) (certs : Certificates) (budget : ℕ) (j : Judged) : Type 0 where
+-- what was judged are the conditions of the program, and what is known of them is this
+pub record IsJudgedAs (p : Program) (is_known : List Known → Type 0) (j : Judged) : Type 0 where
   pub program : judged_program j ≡ p
-  pub known : AreVerdicts certs budget p (map known j.verdicts.items)
+  pub known : is_known (map known j.verdicts.items)
   pub conditions : map (condition_of j.conds.terms) j.conds.list.items ≡ conditions_of p
   pub formed : AreFormed (conditions_of p)
   pub count : length j.conds.list.items ≡ length (conditions_of p)
   pub told : SpellsConditions p j
 
--- the certificates are those that are kept of the conditions that were judged
-abbrev pub AreKeptOf : Judged → ℕ → Certificates → Type 0
-AreKeptOf j budget certs = AreSomeTaken budget 1 (map (condition_of j.conds.terms) j.conds.list.items) (map known j.verdicts.items) certs
+-- the verdicts are those on the conditions of the program, where these certificates are supplied
+abbrev pub HasVerdicts : Program → Certificates → ℕ → Judged → Type 0
+HasVerdicts p certs budget j = IsJudgedAs p (AreVerdicts certs budget p) j
+
+-- the certificates are those that a cache has for the conditions of the program, and what is known is that these are kept, and what the searches of the others end in
+abbrev pub HasTaken : Entries → Program → Certificates → ℕ → Judged → Type 0
+HasTaken es p certs budget j = IsJudgedAs p (λ ks. AreTaken es budget 1 (conditions_of p) ks certs) j
+
+-- so it is for some cache and some program
+pub record HasSomeTaken (certs : Certificates) (budget : ℕ) (j : Judged) : Type 0 where
+  pub entries : Entries
+  pub program : Program
+  pub taken : HasTaken entries program certs budget j
 
 -- the accepted program, with the lines for certificates that aren't valid
 abbrev pub acceptance_in : Accepted → Acceptance

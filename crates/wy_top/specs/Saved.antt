@@ -1,7 +1,7 @@
 -- What do the files come to that `prove` and `again` save, where they are supplied?
 use Rattle.std.specs.Prelude.{◌≡◌, ℕ, List, [], ◌∷◌, ◌++◌, length, true}
 use Rattle.wy_batch.specs.Known.{Known, count}
-use Rattle.wy_cache.specs.Rekept.{AreFormulas, AreTold}
+use Rattle.wy_cache.specs.Rekept.{AreFormulas, FormulasAreTold}
 use Rattle.wy_cache_text.specs.Files.{Entries, IsReadAs}
 use Rattle.wy_term.specs.Condition.{Condition}
 use Rattle.wy_top.specs.Acceptance.{IsAccepted, are_closed}
@@ -27,8 +27,8 @@ pub record IsFull (p : Program) (budget : ℕ) (es : Entries) (text : List ℕ) 
   pub each : length f.certificates ≡ count_of p
   pub fits : f.is.behind ≡ []
 
--- Where a cache that was saved has all conditions of a program, which can be written and whose texts tell them apart, the entries that it is read as keep all of them, whatever the budget, and none is searched.
+-- Where a cache that was saved has all conditions of a program, whose formulas can be written, and a text is that of one formula, the entries that it is read as keep all of them, whatever the budget, and none is searched.
 abbrev pub RenewedKeepsAll : Type 0
 RenewedKeepsAll =
-    (p : Program) (budget : ℕ) (es : Entries) (text : List ℕ) (f : IsCacheOf p budget es text) → IsFull p budget es text f → AreSpelled (conditions_of p) → AreTold (conditions_of p)
+    (p : Program) (budget : ℕ) (es : Entries) (text : List ℕ) (f : IsCacheOf p budget es text) → IsFull p budget es text f → AreSpelled (conditions_of p) → FormulasAreTold
     → (ds : Entries) → IsReadAs text ds → (other : ℕ) (ks : List Known) → AreSeen ds other (conditions_of p) ks → (count is_kept ks ≡ count_of p) × (are_closed ks ≡ true)

@@ -1,9 +1,13 @@
 //! The verdicts on what a program owes.
 ghost use Rattle.std.specs.Prelude.{◌≡◌, ◌≤◌, IfOk, IfErr};
-ghost use Rattle.wy_top.specs.Kept.{AreEach, HasVerdicts, IsKept, program_in};
+ghost use Rattle.wy_cache.specs.Kept.{AreKept};
+ghost use Rattle.wy_cache_text.specs.Files.{Entries};
+ghost use Rattle.wy_top.specs.Kept.{AreEach, HasTaken, HasVerdicts, IsKept, program_in};
+ghost use Rattle.wy_top.specs.Programs.{conditions_of};
 ghost use Rattle.wy_top_probe.specs.wy_top_answers.Answers as answers;
 ghost use Rattle.wy_cert.specs.Steps.{NameTheirTerms, certificates_of};
 
+use crate::others::judge_others;
 use crate::owing::Owed;
 use std::alloc::Global;
 use std::thread::Threads;
@@ -41,6 +45,33 @@ pub fn judge_all<R: Threads + Sync>(
     let Owed { typed, mut conds } = owed;
     match judge(rt, alloc, &mut conds, certs, budget, workers) {
         Ok(verdicts) => Ok(Judged {
+            typed,
+            conds,
+            verdicts,
+        }),
+        Err(_) => Err(no_memory(alloc)),
+    }
+}
+
+/// The same where a cache has these certificates, each of which is valid: they aren't checked, and the other conditions are searched.
+pub fn judge_kept<R: Threads + Sync>(
+    rt: &R,
+    alloc: Global,
+    owed: Owed,
+    kept: &Certs,
+    budget: u64,
+    workers: u32,
+) -> Result<Judged, Answer>
+    requires owed { IsKept owed }
+    requires workers { (1 ≤ workers) × (workers ≤ 64) }
+    ensures taken { (es : Entries) → AreKept es 1 (conditions_of (program_in owed)) (certificates_of kept.now)
+        → IfOk result (HasTaken es (program_in owed) (certificates_of kept.now) budget) }
+    ensures each { IfOk result AreEach }
+    ensures memory { IfErr result (λ a. a ≡ answers.no_memory) }
+{
+    let Owed { typed, conds } = owed;
+    match judge_others(rt, alloc, conds, kept, budget, workers) {
+        Ok((conds, verdicts)) => Ok(Judged {
             typed,
             conds,
             verdicts,

@@ -8,7 +8,7 @@
 //! for conditions that are open or whose budget is spent, with the sum, and `found` makes certificates for those that were found.
 //!
 //! From the file of a source to its acceptance: `owing` reads the typed program and what it owes. `judging` has the verdicts on
-//! that, `accepting` what they mean for the commands that ask for certificates, `checking` the command `check`, and `proving`
+//! that (`others` on what no cache shows), `accepting` what they mean for the commands that ask for certificates, `checking` the command `check`, and `proving`
 //! what the command comes to that makes certificates. Each step comes to a value or to the answer with which the command ends;
 //! which one is due is said in `specs/Programs`, `specs/Acceptance` and `specs/Proofs`.
 //!
@@ -38,6 +38,7 @@ mod judging;
 mod launching;
 mod listing;
 mod making;
+mod others;
 mod owing;
 mod proving;
 mod reading;

@@ -1,26 +1,25 @@
 //! Certificates for what is saved in a cache.
-ghost use Rattle.std.specs.Prelude.{◌≡◌, ◌<◌, ◌^◌, ◌+◌, ◌∷◌, ℕ, List, All, true, length, map, IfOk, IfSome, OnOk};
-ghost use Rattle.wy_batch.specs.Known.{End as SeenEnd, Known, is_closed};
+ghost use Rattle.std.specs.Prelude.{◌≡◌, ◌<◌, ◌^◌, ◌+◌, ◌∷◌, ℕ, List, All, length, map, IfOk, IfSome, OnOk};
+ghost use Rattle.wy_batch.specs.Known.{Known};
 ghost use Rattle.wy_batch.specs.Seen.{known, seen_end};
 ghost use Rattle.wy_batch.specs.wy_check.Within.{IsWithin};
-ghost use Rattle.wy_cert.specs.Steps.{NamesItsTerms, NameTheirTerms, certificates_of, steps_of};
+ghost use Rattle.wy_cache_text.specs.Files.{Entries};
+ghost use Rattle.wy_cert.specs.Steps.{NamesItsTerms, NameTheirTerms, certificates_of};
 ghost use Rattle.wy_prove.specs.Answers.{IsFormedThroughout};
 ghost use Rattle.wy_term.specs.Condition.{Condition, condition_of};
 ghost use Rattle.wy_term.specs.Nodes.{tree_at};
 ghost use Rattle.wy_top.specs.Caches.{AreSaved, IsMade};
-ghost use Rattle.wy_top.specs.Taken.{AreSomeTaken, waiting};
-ghost use Rattle.wy_top_probe.specs.wy_top_answers.wy_check_spec.valid.Validity.{IsValid};
+ghost use Rattle.wy_top.specs.Taken.{AreTaken, IsWritten, waiting};
 
 use std::alloc::Global;
 use wy_batch::{End, Verdict};
 use wy_cert::{Cert, Certs};
 use wy_prove::certified;
-use wy_prove_writable::is_certificate_writable;
 use wy_term::{Cond, NoMemory, Terms};
 
-/// A valid certificate for each condition that is closed, with its number, from 1, in order: the one that is kept of those whose
-/// certificate was supplied, of which these are the ones, and else that of its search, which goes its way again with this budget
-/// of leaves. One that has a name or a number that no file spells is left out.
+/// A certificate for each condition that is closed, with its number, from 1, in order: the one that is kept, where it is, of which
+/// these are the ones; and else a valid one of its search, which goes its way again with this budget of leaves. One of a search
+/// that can't be written is left out.
 pub fn renewed(
     alloc: Global,
     terms: &mut Terms,
@@ -33,10 +32,9 @@ pub fn renewed(
     requires each { length verdicts.now ≡ length conds.now }
     requires within { All (IsWithin (length terms.old)) conds.now }
     requires formed { All (λ c. IsFormedThroughout (condition_of terms.old c)) conds.now }
-    requires named { NameTheirTerms kept }
-    requires taken { AreSomeTaken budget 1 (map (condition_of terms.old) conds.now) (map known verdicts.now)
-        (certificates_of kept) }
-    ensures saved { IfOk result (λ certs. AreSaved 1 (map (condition_of terms.old) conds.now)
+    requires written { All (λ e. IsWritten e.1) kept.list.items }
+    ensures saved { (es : Entries) → AreTaken es budget 1 (map (condition_of terms.old) conds.now) (map known verdicts.now)
+        (certificates_of kept) → IfOk result (λ certs. AreSaved es 1 (map (condition_of terms.old) conds.now)
         (map known verdicts.now) (certificates_of certs)) }
     ensures named { IfOk result NameTheirTerms }
     ensures length { length terms.new ≡ length terms.old }
@@ -54,7 +52,7 @@ pub fn renewed(
     Ok(Certs { list })
 }
 
-// The certificate of a condition that ends so, if it can be written. That of one that is kept stands last of those that are left.
+// The certificate of a condition that ends so, if there is one. That of one that is kept stands last of those that are left.
 fn one_renewed(
     terms: &mut Terms,
     cond: &Cond,
@@ -64,21 +62,21 @@ fn one_renewed(
 ) -> Result<Option<Cert>, NoMemory>
     requires cond { IsWithin (length terms.old) cond.now }
     requires formed { IsFormedThroughout (condition_of terms.old cond.now) }
-    requires named { All (λ e. NamesItsTerms e.1) left.old.items }
-    ensures made { (n : ℕ) → (cs : List Condition) → (ks : List Known) → (k : Known) → seen_end end.now ≡ k.end
-        → AreSomeTaken budget n (condition_of terms.old cond.now ∷ cs) (k ∷ ks) (waiting left.old.items)
-        → IfOk result (IsMade (condition_of terms.old cond.now) k.end) }
-    ensures taken { (n : ℕ) → (cs : List Condition) → (ks : List Known) → (k : Known) → seen_end end.now ≡ k.end
-        → AreSomeTaken budget n (condition_of terms.old cond.now ∷ cs) (k ∷ ks) (waiting left.old.items)
-        → OnOk result (AreSomeTaken budget (n + 1) cs ks (waiting left.new.items)) }
+    requires written { All (λ e. IsWritten e.1) left.old.items }
+    ensures made { (es : Entries) → (n : ℕ) → (cs : List Condition) → (ks : List Known) → (k : Known) → seen_end end.now ≡ k.end
+        → AreTaken es budget n (condition_of terms.old cond.now ∷ cs) (k ∷ ks) (waiting left.old.items)
+        → IfOk result (IsMade es (condition_of terms.old cond.now) k.end) }
+    ensures taken { (es : Entries) → (n : ℕ) → (cs : List Condition) → (ks : List Known) → (k : Known) → seen_end end.now ≡ k.end
+        → AreTaken es budget n (condition_of terms.old cond.now ∷ cs) (k ∷ ks) (waiting left.old.items)
+        → OnOk result (AreTaken es budget (n + 1) cs ks (waiting left.new.items)) }
     ensures named { IfOk result (λ o. IfSome o NamesItsTerms) }
-    ensures left { OnOk result (All (λ e. NamesItsTerms e.1) left.new.items) }
+    ensures left { OnOk result (All (λ e. IsWritten e.1) left.new.items) }
     ensures length { length terms.new ≡ length terms.old }
     ensures kept { (t : ℕ) → t < length terms.old → tree_at terms.new t ≡ tree_at terms.old t }
 {
     match end {
         End::Supplied => match left.pop() {
-            Some((_number, cert)) => if_writable(cert),
+            Some((_number, cert)) => Ok(Some(cert)),
             None => Ok(None),
         },
         End::Found { .. } => {
@@ -86,18 +84,5 @@ fn one_renewed(
             Ok(made)
         }
         End::Open(_) | End::Spent => Ok(None),
-    }
-}
-
-// The certificate, where it can be written.
-fn if_writable(cert: Cert) -> Result<Option<Cert>, NoMemory>
-    requires { NamesItsTerms cert }
-    ensures made { (c : Condition) → (e : SeenEnd) → is_closed e ≡ true → IsValid c (steps_of cert) → IfOk result (IsMade c e) }
-    ensures named { IfOk result (λ o. IfSome o NamesItsTerms) }
-{
-    if is_certificate_writable(&cert)? {
-        Ok(Some(cert))
-    } else {
-        Ok(None)
     }
 }

@@ -1,19 +1,19 @@
 //! What the command `again` makes of a source and a cache.
-ghost use Rattle.std.specs.Prelude.{◌≡◌, ◌≤◌, ◌<◌, ◌^◌, ℕ, List, length, map, IfOk};
+ghost use Rattle.std.specs.Prelude.{◌≡◌, ◌≤◌, ◌<◌, ◌^◌, ℕ, List, All, length, map, IfOk};
 ghost use Rattle.std.specs.String.{string_bytes};
 ghost use Rattle.wy_batch.specs.Seen.{known};
 ghost use Rattle.wy_cache_text.specs.Files.{Entries};
-ghost use Rattle.wy_cert.specs.Steps.{Certificates, NameTheirTerms, certificates_of};
+ghost use Rattle.wy_cert.specs.Steps.{Certificates, certificates_of};
 ghost use Rattle.wy_top_probe.specs.wy_top_answers.Steps.{During, Gives, Setting, came};
 ghost use Rattle.wy_top.specs.Acceptance.{are_closed as are_closed_in};
 ghost use Rattle.wy_top.specs.Again as spec;
-ghost use Rattle.wy_top.specs.Caches.{AreSeen};
-ghost use Rattle.wy_top.specs.Kept.{AreEach, AreKeptOf, HasVerdicts, IsKept, answer_in, entries_in, program_in};
-ghost use Rattle.wy_top.specs.Programs.{Program, conditions_of};
+ghost use Rattle.wy_top.specs.Kept.{AreEach, HasSomeTaken, HasTaken, IsKept, answer_in, entries_in, program_in};
+ghost use Rattle.wy_top.specs.Programs.{Program};
+ghost use Rattle.wy_top.specs.Taken.{IsWritten};
 
 use crate::caching::cache_in;
 use crate::counting::are_closed;
-use crate::judging::{Judged, judge_all};
+use crate::judging::{Judged, judge_kept};
 use crate::owing::{Owed, owed_by};
 use crate::proving::Proof;
 use crate::refusing::refusal_lines;
@@ -46,7 +46,7 @@ fn answer_of(
     kept: u32,
 ) -> Result<Answer, NoMemory>
     requires each { AreEach judged.now }
-    ensures value { (p : Program) → (certs : Certificates) → HasVerdicts p certs budget judged.now
+    ensures value { (p : Program) → (es : Entries) → (certs : Certificates) → HasTaken es p certs budget judged.now
         → IfOk result (λ a. a ≡ spec.renewal_answer name.now bytes.now p budget kept
         (map known judged.now.verdicts.items) (are_closed_in (map known judged.now.verdicts.items))) }
 {
@@ -76,10 +76,9 @@ fn answer_of(
 // The cache of what is kept and what was found.
 fn saved(alloc: Global, judged: Judged, kept: Certs, budget: u64) -> Result<Bytes, NoMemory>
     requires each { AreEach judged }
-    requires named { NameTheirTerms kept }
-    requires taken { AreKeptOf judged budget (certificates_of kept) }
-    ensures file { (p : Program) → (certs : Certificates) → (es : Entries) → HasVerdicts p certs budget judged
-        → AreSeen es budget (conditions_of p) (map known judged.verdicts.items)
+    requires written { All (λ e. IsWritten e.1) kept.list.items }
+    requires taken { HasSomeTaken (certificates_of kept) budget judged }
+    ensures file { (p : Program) → (es : Entries) → HasTaken es p (certificates_of kept) budget judged
         → IfOk result (spec.IsCacheOf p budget es) }
 {
     let Judged {
@@ -109,13 +108,11 @@ fn made(
     kept: Certs,
 ) -> Result<Proof, NoMemory>
     requires each { AreEach judged }
-    requires named { NameTheirTerms kept }
-    requires taken { AreKeptOf judged budget (certificates_of kept) }
-    ensures value { (p : Program) → (certs : Certificates) → (es : Entries) → HasVerdicts p certs budget judged
-        → AreSeen es budget (conditions_of p) (map known judged.verdicts.items)
+    requires written { All (λ e. IsWritten e.1) kept.list.items }
+    requires taken { HasSomeTaken (certificates_of kept) budget judged }
+    ensures value { (p : Program) → (es : Entries) → HasTaken es p (certificates_of kept) budget judged
         → IfOk result (λ f. spec.IsRenewal name.now bytes.now p budget es f.answer) }
-    ensures file { (p : Program) → (certs : Certificates) → (es : Entries) → HasVerdicts p certs budget judged
-        → AreSeen es budget (conditions_of p) (map known judged.verdicts.items)
+    ensures file { (p : Program) → (es : Entries) → HasTaken es p (certificates_of kept) budget judged
         → IfOk result (λ f. spec.IsCacheOf p budget es f.saved) }
 {
     let answer = answer_of(alloc, name, bytes, budget, &judged, kept.list.len() as u32)?;
@@ -140,12 +137,12 @@ fn renew_on<R: Threads + Sync>(
     ensures file { IfOk result (λ f. spec.IsCacheOf (program_in owed) budget (entries_in cache.now) f.saved) }
 {
     let mut owed = owed;
-    let certs = match kept(cache, &mut owed.conds) {
-        Ok(certs) => certs,
+    let kept = match kept(cache, &mut owed.conds) {
+        Ok(kept) => kept,
         Err(_) => return Err(no_memory(alloc)),
     };
-    match judge_all(rt, alloc, owed, &certs, budget, workers) {
-        Ok(judged) => match made(alloc, name, bytes, budget, judged, certs) {
+    match judge_kept(rt, alloc, owed, &kept, budget, workers) {
+        Ok(judged) => match made(alloc, name, bytes, budget, judged, kept) {
             Ok(proof) => Ok(proof),
             Err(_) => Err(no_memory(alloc)),
         },
