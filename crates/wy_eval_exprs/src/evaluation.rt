@@ -13,6 +13,8 @@ ghost use Rattle.wy_eval_exprs.specs.Settings.{asked_by, data_in, items_by, name
 
 use crate::aliases::{forgiven, store_of_alias};
 use crate::declared::Declared;
+use crate::knowing::{again, known_answer};
+use crate::known::Question;
 use crate::kinds::{is_null, is_truth, is_whole, same_names};
 use crate::meter::Meter;
 use crate::operands::{as_numbers, as_truth};
@@ -32,6 +34,10 @@ const LONGEST: usize = 9223372036854775807;
 
 // How many levels a node of an expression takes: its frame is as large as those of some visits.
 const NODE: u32 = 4;
+
+// How many levels there must be where a name is asked in a contract: the name's clauses and the types that they test
+// nest at most 400 deep up to the next name, and so take fewer.
+const AHEAD: u32 = 2048;
 
 /// The value of an expression, in which tests of types may nest so deep. Each node spends a tick where
 /// nodes are paid.
@@ -410,9 +416,53 @@ pub fn asked(
     }
 }
 
+/// What a name asks. In a contract a question for which there is no room waits, and is asked again where its answer
+/// is known.
+#[cycle(contract)]
+pub fn name_asked(
+    alloc: Global,
+    room: u32,
+    declared: &Declared,
+    depth: usize,
+    paid: bool,
+    forgives: bool,
+    bare: usize,
+    number: u32,
+    value: &Value,
+    meter: &mut Meter,
+) -> Result<bool, Stop>
+    ensures value { Gives itself (named_by (questions (map seen_alias declared.now.types) declared.now.limit depth paid forgives) bare (seen value.now) number (meter_of meter.old)) result (meter_of meter.new) }
+{
+    if paid || !meter.is_of_contract() {
+        return name_visited(
+            alloc, room, declared, depth, paid, forgives, bare, number, value, meter,
+        );
+    }
+    let turns = meter.turns;
+    if let Some(known) = known_answer(declared, depth, forgives, bare, number, value, turns) {
+        meter.turns = known.turns;
+        return again(&known.found);
+    }
+    if room < AHEAD {
+        let value = value.copy(alloc)?;
+        meter.waits = Some(Question {
+            number,
+            bare,
+            depth,
+            forgives,
+            value,
+            turns,
+        });
+        return Err(Stop::NoMemory);
+    }
+    name_visited(
+        alloc, room, declared, depth, paid, forgives, bare, number, value, meter,
+    )
+}
+
 /// A name asks its definition and then its clauses.
 #[cycle(contract)]
-fn name_asked(
+fn name_visited(
     alloc: Global,
     room: u32,
     declared: &Declared,

@@ -1048,8 +1048,8 @@ type_test-returns t c =
           (test_is c.args.declared.now.types L c.args.depth j c.args.paid (seen_ty c.args.ty.now) (seen c.args.value.now) M0 c.len-bare.result deep c.len-bare.ensures) c.asked.ensures.value;
     }
 
-pub name_asked-returns-in_err-within-in-Some : goal.name_asked-returns-in_err-within-in-Some
-name_asked-returns-in_err-within-in-Some t c =
+pub name_visited-returns-in_err-within-in-Some : goal.name_visited-returns-in_err-within-in-Some
+name_visited-returns-in_err-within-in-Some t c =
     let Q = questions (map seen_alias c.args.declared.now.types) c.args.declared.now.limit c.args.depth c.args.paid c.args.forgives in
     let D = seen c.args.value.now in
     let M0 = meter_of c.args.meter.now in
@@ -1069,8 +1069,8 @@ name_asked-returns-in_err-within-in-Some t c =
           (then_stops itself (asked_by Q j D T M0) next K c.in_err-within-in-Some.field-0.0 c.from_residual.result c.in_err-within-in-Some.ensures.value c.from_residual.ensures.1);
     }
 
-pub name_asked-returns-then-not-within : goal.name_asked-returns-then-not-within
-name_asked-returns-then-not-within t c =
+pub name_visited-returns-then-not-within : goal.name_visited-returns-then-not-within
+name_visited-returns-then-not-within t c =
     let Q = questions (map seen_alias c.args.declared.now.types) c.args.declared.now.limit c.args.depth c.args.paid c.args.forgives in
     let D = seen c.args.value.now in
     let M0 = meter_of c.args.meter.now in
@@ -1088,8 +1088,8 @@ name_asked-returns-then-not-within t c =
     let w = c.in_ok-within-in-Some.within in
     record { value = at ∙ (then_is (asked_by Q j D T M0) next w K c.in_ok-within-in-Some.ensures.value ∙ ap (λ b. choose b (Q.clause n D) (tests.answer false) K) c.if-not-within.true) }
 
-pub name_asked-returns-then-forgives : goal.name_asked-returns-then-forgives
-name_asked-returns-then-forgives t c =
+pub name_visited-returns-then-forgives : goal.name_visited-returns-then-forgives
+name_visited-returns-then-forgives t c =
     let Q = questions (map seen_alias c.args.declared.now.types) c.args.declared.now.limit c.args.depth c.args.paid c.args.forgives in
     let D = seen c.args.value.now in
     let M0 = meter_of c.args.meter.now in
@@ -1118,8 +1118,8 @@ name_asked-returns-then-forgives t c =
           (clauses_forgiven (map seen_alias all) c.args.declared.now.limit c.args.depth c.args.paid c.args.forgives n D O K r c.forgiven.result K2 c.if-forgives.true held c.all_hold-answer.ensures.value c.forgiven.ensures.value);
     }
 
-pub name_asked-returns-else-forgives : goal.name_asked-returns-else-forgives
-name_asked-returns-else-forgives t c =
+pub name_visited-returns-else-forgives : goal.name_visited-returns-else-forgives
+name_visited-returns-else-forgives t c =
     let Q = questions (map seen_alias c.args.declared.now.types) c.args.declared.now.limit c.args.depth c.args.paid c.args.forgives in
     let D = seen c.args.value.now in
     let M0 = meter_of c.args.meter.now in
@@ -1148,8 +1148,8 @@ name_asked-returns-else-forgives t c =
           (clauses_give (map seen_alias all) c.args.declared.now.limit c.args.depth c.args.paid c.args.forgives n D O K r K2 c.if-forgives.false held c.all_hold-answer.ensures.value);
     }
 
-pub name_asked-returns-in_err-turn-in-None : goal.name_asked-returns-in_err-turn-in-None
-name_asked-returns-in_err-turn-in-None t c =
+pub name_visited-returns-in_err-turn-in-None : goal.name_visited-returns-in_err-turn-in-None
+name_visited-returns-in_err-turn-in-None t c =
     let Q = questions (map seen_alias c.args.declared.now.types) c.args.declared.now.limit c.args.depth c.args.paid c.args.forgives in
     let D = seen c.args.value.now in
     let M0 = meter_of c.args.meter.now in
@@ -1168,8 +1168,8 @@ name_asked-returns-in_err-turn-in-None t c =
           (then_stops itself (asked_by Q j D ty.VoidTy M0) next K e r (λ none. asked_stops Q (named_by Q j D) D (items_by Q D) (parts_by Q D) ty.VoidTy M0 K e c.in_err-turn-in-None.ensures.value none) c.from_residual-in_err-turn-in-None.ensures.1);
     }
 
-pub name_asked-returns-in_ok-turn-in-None : goal.name_asked-returns-in_ok-turn-in-None
-name_asked-returns-in_ok-turn-in-None t c =
+pub name_visited-returns-in_ok-turn-in-None : goal.name_visited-returns-in_ok-turn-in-None
+name_visited-returns-in_ok-turn-in-None t c =
     let Q = questions (map seen_alias c.args.declared.now.types) c.args.declared.now.limit c.args.depth c.args.paid c.args.forgives in
     let D = seen c.args.value.now in
     let M0 = meter_of c.args.meter.now in
