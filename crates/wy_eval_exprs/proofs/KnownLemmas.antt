@@ -1,6 +1,6 @@
 -- Answers that are known, and what they say of questions.
 use Rattle.std.proofs.Common.{◌≡◌, ◌≢◌, ◌∙◌, ℕ, zero, suc, ◌+◌, ◌<◌, ◌==◌, Bool, true, false, List, [], ◌∷◌, ◌++◌, length, Option, None, Some, Result, Ok, Err, refl, sym, ap, subst}
-use Rattle.std.specs.Prelude.{slice_get, if◌then◌else◌}
+use Rattle.std.specs.Prelude.{MatchOption, slice_get, if◌then◌else◌}
 use Rattle.wy_core.specs.CoreTree.{Alias}
 use Rattle.wy_value.specs.Datum.{Datum}
 use Rattle.wy_value.specs.declared.value.Value.{Value}
@@ -89,7 +89,7 @@ pub known_is : (types : List (Alias ℕ)) (limit : ℕ) (a : Answer) (depth : �
 known_is types limit a depth forgives bare number value turns is place asks =
     let q = a.question in
     let O : ℕ → Bool → ℕ → ℕ → Value → ℕ → Type 0 =
-        λ d f b n v t. Gives itself (named_by (questions types limit d false f) b (seen v) n (at_turn t)) a.found (at_turn a.turns)
+    λ d f b n v t. Gives itself (named_by (questions types limit d false f) b (seen v) n (at_turn t)) a.found (at_turn a.turns)
     in
     subst (λ t. O depth forgives bare number value t) asks.2
     (subst (λ v. O depth forgives bare number v q.turns) asks.1
@@ -122,7 +122,7 @@ in_front [] last i a h = absurd cc
 in_front (x ∷ known) last zero a h = h
 in_front (x ∷ known) last (suc i) a h = in_front known last i a h
 
-pub fewer : (types : List (Alias ℕ)) (limit : ℕ) (known : List Answer) (last : Answer) → AreTrue types limit (known ++ last ∷ []) → AreTrue types limit known
+fewer : (types : List (Alias ℕ)) (limit : ℕ) (known : List Answer) (last : Answer) → AreTrue types limit (known ++ last ∷ []) → AreTrue types limit known
 fewer types limit known last h i a there = h i a (in_front known last i a there)
 
 abbrev there_or : Answer → Option Answer → Answer
@@ -134,3 +134,9 @@ one_more types limit [] last h is zero a there = subst (IsTrueOf types limit) (s
 one_more types limit [] last h is (suc i) a there = absurd cc
 one_more types limit (x ∷ known) last h is zero a there = h zero a there
 one_more types limit (x ∷ known) last h is (suc i) a there = one_more types limit known last (λ j b at. h (suc j) b at) is i a there
+
+-- what is left where the last one is taken off
+pub after_pop : (types : List (Alias ℕ)) (limit : ℕ) (old new : List Answer) (last : Option Answer) → MatchOption last ((old ≡ []) × (new ≡ [])) (λ a. old ≡ new ++ a ∷ [])
+    → AreTrue types limit old → AreTrue types limit new
+after_pop types limit old new None is h = subst (AreTrue types limit) (is.0 ∙ sym is.1) h
+after_pop types limit old new (Some a) is h = fewer types limit new a (subst (AreTrue types limit) is h)

@@ -18,13 +18,18 @@ use wy_items::Items;
 /// has there, three of `type List is null | {int head, List tail}`.
 pub const ROOM: u32 = 4096;
 
-/// The declared types of a program, by their numbers, how many turns contracts may spend, and what is known of
-/// questions that waited for room.
+// How many levels there must be first where a name is asked in a contract: its clauses and the types that they test
+// nest at most 400 deep up to the next name, and so take fewer.
+const AHEAD: u32 = 2048;
+
+/// The declared types of a program, by their numbers, how many turns contracts may spend, what is known of questions
+/// that waited for room, and how many levels there must be where a name is asked in a contract.
 #[derive(Drop)]
 pub struct Declared {
     pub types: Items<Alias>,
     pub limit: u64,
     pub known: Items<Answer>,
+    pub ahead: u32,
     pub ghost truths: { AreTrue (map seen_alias types) limit known },
 }
 
@@ -40,6 +45,7 @@ impl Declared {
             types,
             limit,
             known,
+            ahead: AHEAD,
         })
     }
 }

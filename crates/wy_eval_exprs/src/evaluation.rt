@@ -13,9 +13,9 @@ ghost use Rattle.wy_eval_exprs.specs.Settings.{asked_by, data_in, items_by, name
 
 use crate::aliases::{forgiven, store_of_alias};
 use crate::declared::Declared;
+use crate::kinds::{is_null, is_truth, is_whole, same_names};
 use crate::knowing::{again, known_answer};
 use crate::known::Question;
-use crate::kinds::{is_null, is_truth, is_whole, same_names};
 use crate::meter::Meter;
 use crate::operands::{as_numbers, as_truth};
 use crate::operators::{applied, denied, early, length, negated};
@@ -34,10 +34,6 @@ const LONGEST: usize = 9223372036854775807;
 
 // How many levels a node of an expression takes: its frame is as large as those of some visits.
 const NODE: u32 = 4;
-
-// How many levels there must be where a name is asked in a contract: the name's clauses and the types that they test
-// nest at most 400 deep up to the next name, and so take fewer.
-const AHEAD: u32 = 2048;
 
 /// The value of an expression, in which tests of types may nest so deep. Each node spends a tick where
 /// nodes are paid.
@@ -443,7 +439,7 @@ pub fn name_asked(
         meter.turns = known.turns;
         return again(&known.found);
     }
-    if room < AHEAD {
+    if room < declared.ahead {
         let value = value.copy(alloc)?;
         meter.waits = Some(Question {
             number,

@@ -10,7 +10,7 @@ ghost use Rattle.wy_eval_exprs.specs.Known.{AreTrue, IsTrueOf, at_turn};
 ghost use Rattle.wy_eval_exprs.specs.Outcomes.{Gives, itself};
 ghost use Rattle.wy_eval_exprs.specs.Settings.{named_by, questions};
 
-use crate::declared::Declared;
+use crate::declared::{Declared, ROOM};
 use crate::known::{Answer, Question};
 use crate::stop::Stop;
 use std::alloc::AllocError;
@@ -32,15 +32,7 @@ pub fn known_answer<'a>(
     let place = first_from(declared.known.as_slice(), turns);
     match declared.known.get(place) {
         Some(known) => {
-            if is_question(
-                &known.question,
-                depth,
-                forgives,
-                bare,
-                number,
-                value,
-                turns,
-            ) {
+            if is_question(&known.question, depth, forgives, bare, number, value, turns) {
                 Some(known)
             } else {
                 None
@@ -98,7 +90,8 @@ pub fn again(found: &Result<bool, Stop>) -> Result<bool, Stop>
     }
 }
 
-/// One answer more, in place of those that were needed for it.
+/// One answer more, in place of those that were needed for it. From now on each name that is asked in a contract
+/// waits, but the one with which a question begins: so no more than its own nodes are asked again.
 pub fn knowing(declared: Declared, answer: Answer) -> Result<Declared, AllocError>
     requires true_of { IsTrueOf (map seen_alias declared.types) declared.limit answer }
     ensures types { IfOk result (λ made. made.types ≡ declared.types) }
@@ -108,6 +101,7 @@ pub fn knowing(declared: Declared, answer: Answer) -> Result<Declared, AllocErro
         types,
         limit,
         known,
+        ahead: _,
     } = declared;
     let mut known = earlier(known, answer.question.turns);
     known.push(answer)?;
@@ -115,6 +109,7 @@ pub fn knowing(declared: Declared, answer: Answer) -> Result<Declared, AllocErro
         types,
         limit,
         known,
+        ahead: ROOM,
     })
 }
 

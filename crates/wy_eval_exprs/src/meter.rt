@@ -39,6 +39,17 @@ impl Meter {
         self.ticks == 0 && self.output.is_empty()
     }
 
+    /// The question that waits for room.
+    pub fn into_waiting(self) -> Option<Question> {
+        let Meter {
+            ticks: _,
+            turns: _,
+            output: _,
+            waits,
+        } = self;
+        waits
+    }
+
     /// Spends a tick where nodes are paid: `More` where none is left.
     pub fn spend(&mut self, paid: bool) -> Result<(), Stop>
         ensures value { Gives itself (spend paid (Done tt) (meter_of self.old)) result (meter_of self.new) }

@@ -48,8 +48,8 @@ pub enum MeetsEnd {
 ///
 /// The stack is bounded, and the nesting isn't: each nested visit takes one and each nested expression four of `ROOM`
 /// levels, 4,096 of them, and a name for which they don't suffice waits on a work list until the test begins again
-/// with its answer. So visits that nest deeper take more time: those below a waiting name are made once, and those
-/// above it once more.
+/// with its answer. From then on each name waits, so what a name asks itself is asked once more for each name that it
+/// asks: such tests take time in the square of the items of a list.
 ///
 /// No accepted program has a call in a contract, or a circle of bare names; at one, the answer is want
 /// of memory, so `TurnsSpent` says that the turns were spent and nothing else.
@@ -87,17 +87,10 @@ fn tried(
     ensures exact { IfOk result (λ end. IsExact end declared.now.limit (cost here (seen_core core.now) entry (map seen args.now)) (precondition here None (seen_core core.now) entry (map seen args.now)) (Meets here (seen_core core.now) entry (map seen args.now))) }
 {
     let mut meter = Meter::of_contract(alloc, 0);
-    let ended = callee_met(alloc, declared, core, entry, args, &mut meter);
-    let Meter {
-        ticks: _,
-        turns: _,
-        output: _,
-        waits,
-    } = meter;
-    match ended {
+    match callee_met(alloc, declared, core, entry, args, &mut meter) {
         Ok(end) => Ok(end),
         Err(Stop::Spent) => Ok(MeetsEnd::TurnsSpent),
-        Err(_) => Err(waits),
+        Err(_) => Err(meter.into_waiting()),
     }
 }
 

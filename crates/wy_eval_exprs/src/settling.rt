@@ -89,11 +89,7 @@ fn is_no_memory(answer: &Result<bool, Stop>) -> bool {
 }
 
 // One answer more.
-fn with_answer(
-    declared: Declared,
-    question: Question,
-    found: Found,
-) -> Result<Declared, NoMemory>
+fn with_answer(declared: Declared, question: Question, found: Found) -> Result<Declared, NoMemory>
     requires true_of { Gives itself (answer_to (map seen_alias declared.types) declared.limit question) found.answer (at_turn found.turns) }
     ensures types { IfOk result (λ made. made.types ≡ declared.types) }
     ensures limit { IfOk result (λ made. made.limit ≡ declared.limit) }
