@@ -86,9 +86,10 @@ def timed(program, words, folder):
 
 def short(programs):
     """Each example that isn't shown is explained in few lines, with the clause that is owed, in time."""
-    folder, options, owed = f"{HERE}/examples/unshown", ["--budget", "200"], dict(clauses())
+    folder, owed = f"{HERE}/examples/unshown", dict(clauses())
     for path in sorted(glob.glob(f"{folder}/*.wy")):
         name = os.path.basename(path)
+        options = ["--budget", "20" if name == "merge.wy" else "200"]
         (wanted, _, line), checked = timed(programs[1], ["check", name, "none", *options], folder)
         (status, out, err), took = timed(programs[0], ["explain", name, *options], folder)
         lines = out.splitlines()
