@@ -66,10 +66,12 @@ module _ (es : Entries) (budget : ℕ) where
       by : (ls : List Known) → AreKnown [] budget m (c ∷ others_of (n + 1) certs cs) ls → AreTaken es budget n (c ∷ cs) (first_before ls (beside known_kept (n + 1) certs (length cs) (behind ls))) certs
       by [] all = absurd all
       by (l ∷ ls) all =
-          let first = all.0 in
-          (others, not_taken never first.bad_step first.end is,
-          subst (λ (ds : Certificates). AreTaken es budget (n + 1) cs (beside known_kept (n + 1) ds (length cs) ls) others) (sym is)
-          (later (m + 1) ls (subst (λ (ds : Certificates). AreKnown [] budget (m + 1) (others_of (n + 1) ds cs) ls) is all.1)))
+          let first = all.0 in (
+            others,
+            not_taken never first.bad_step first.end is,
+            subst (λ (ds : Certificates). AreTaken es budget (n + 1) cs (beside known_kept (n + 1) ds (length cs) ls) others) (sym is)
+                (later (m + 1) ls (subst (λ (ds : Certificates). AreKnown [] budget (m + 1) (others_of (n + 1) ds cs) ls) is all.1)),
+          )
 
   beside_taken : (n m : ℕ) (cs : List Condition) (certs : Certificates) (ks : List Known) → AreKept es n cs certs → AreKnown [] budget m (others_of n certs cs) ks → AreTaken es budget n cs (beside known_kept n certs (length cs) ks) certs
   beside_taken n m [] certs ks h known = h

@@ -21,13 +21,7 @@ fn behind_first(certs: &[(u32, Cert)], number: u32) -> Option<&[(u32, Cert)]>
         × (spec.pairs more.now ≡ spec.behind (spec.pairs certs.now))) }
 {
     match certs.split_first() {
-        Some((first, more)) => {
-            if first.0 == number {
-                Some(more)
-            } else {
-                None
-            }
-        }
+        Some((first, more)) => { if first.0 == number { Some(more) } else { None } }
         None => None,
     }
 }

@@ -44,12 +44,12 @@ loop-i-preserved-in_default c =
     let same = same_condition c.args.terms.now c.loop-i.terms cond c.loop-i.invariant.same c.loop-i.invariant.kept (within_at (length c.args.terms.now) conds i cond c.requires.within lt c.index-conds-i.is) in
     let ends = ap (λ (w : Verdict). seen_end w.end) (sym c.index-verdicts-i.is) in
     let here = λ (es : Entries) (h : AreTaken es c.args.budget 1 (map of conds) (map known vs) (certificates_of c.args.kept)).
-        subst (λ (d : Condition). AreTaken es c.args.budget (i + 1) (d ∷ cs) (known v ∷ ks) waits) (sym same)
-        (next_taken of conds vs i cond v lt lv c.index-conds-i.is c.index-verdicts-i.is es c.args.budget waits (c.loop-i.invariant.taken es h)) in
+    subst (λ (d : Condition). AreTaken es c.args.budget (i + 1) (d ∷ cs) (known v ∷ ks) waits) (sym same)
+    (next_taken of conds vs i cond v lt lv c.index-conds-i.is c.index-verdicts-i.is es c.args.budget waits (c.loop-i.invariant.taken es h)) in
     let made = λ (es : Entries) (h : AreTaken es c.args.budget 1 (map of conds) (map known vs) (certificates_of c.args.kept)).
-        subst (λ (d : Condition). IsMade es d (seen_end v.end) c.in_ok-cert.field-0) same (c.in_ok-cert.ensures.made es (i + 1) cs ks (known v) ends (here es h)) in
+    subst (λ (d : Condition). IsMade es d (seen_end v.end) c.in_ok-cert.field-0) same (c.in_ok-cert.ensures.made es (i + 1) cs ks (known v) ends (here es h)) in
     let follows = λ (es : Entries) (h : AreTaken es c.args.budget 1 (map of conds) (map known vs) (certificates_of c.args.kept)).
-        next_follows of conds vs i cond v lt lv c.index-conds-i.is c.index-verdicts-i.is es (AreSaved es 1 (map of conds) (map known vs)) (map pair_of c.loop-i.list.items) (c.loop-i.invariant.saved es h) in
+    next_follows of conds vs i cond v lt lv c.index-conds-i.is c.index-verdicts-i.is es (AreSaved es 1 (map of conds) (map known vs)) (map pair_of c.loop-i.list.items) (c.loop-i.invariant.saved es h) in
     record {
       taken = λ es h. c.in_ok-cert.ensures.taken es (i + 1) cs ks (known v) ends (here es h);
       saved = λ es h. saves_none es (AreSaved es 1 (map of conds) (map known vs)) (i + 1) (of cond) (known v) cs ks (map pair_of c.loop-i.list.items) c.in_ok-cert.field-0 c.in_default.is (made es h) (follows es h);
@@ -75,12 +75,12 @@ loop-i-preserved c =
     let same = same_condition c.args.terms.now c.loop-i.terms cond c.loop-i.invariant.same c.loop-i.invariant.kept (within_at (length c.args.terms.now) conds i cond c.requires.within lt c.index-conds-i.is) in
     let ends = ap (λ (w : Verdict). seen_end w.end) (sym c.index-verdicts-i.is) in
     let here = λ (es : Entries) (h : AreTaken es c.args.budget 1 (map of conds) (map known vs) (certificates_of c.args.kept)).
-        subst (λ (d : Condition). AreTaken es c.args.budget (i + 1) (d ∷ cs) (known v ∷ ks) waits) (sym same)
-        (next_taken of conds vs i cond v lt lv c.index-conds-i.is c.index-verdicts-i.is es c.args.budget waits (c.loop-i.invariant.taken es h)) in
+    subst (λ (d : Condition). AreTaken es c.args.budget (i + 1) (d ∷ cs) (known v ∷ ks) waits) (sym same)
+    (next_taken of conds vs i cond v lt lv c.index-conds-i.is c.index-verdicts-i.is es c.args.budget waits (c.loop-i.invariant.taken es h)) in
     let made = λ (es : Entries) (h : AreTaken es c.args.budget 1 (map of conds) (map known vs) (certificates_of c.args.kept)).
-        subst (λ (d : Condition). IsMade es d (seen_end v.end) c.in_ok-cert.field-0) same (c.in_ok-cert.ensures.made es (i + 1) cs ks (known v) ends (here es h)) in
+    subst (λ (d : Condition). IsMade es d (seen_end v.end) c.in_ok-cert.field-0) same (c.in_ok-cert.ensures.made es (i + 1) cs ks (known v) ends (here es h)) in
     let follows = λ (es : Entries) (h : AreTaken es c.args.budget 1 (map of conds) (map known vs) (certificates_of c.args.kept)).
-        next_follows of conds vs i cond v lt lv c.index-conds-i.is c.index-verdicts-i.is es (AreSaved es 1 (map of conds) (map known vs)) (map pair_of c.loop-i.list.items) (c.loop-i.invariant.saved es h) in
+    next_follows of conds vs i cond v lt lv c.index-conds-i.is c.index-verdicts-i.is es (AreSaved es 1 (map of conds) (map known vs)) (map pair_of c.loop-i.list.items) (c.loop-i.invariant.saved es h) in
     record {
       taken = λ es h. c.in_ok-cert.ensures.taken es (i + 1) cs ks (known v) ends (here es h);
       saved = λ es h. saves_some es (AreSaved es 1 (map of conds) (map known vs)) (i + 1) (of cond) (known v) cs ks c.loop-i.list.items c.push.new.self.items c.in-Some.cert c.in_ok-cert.field-0 c.in-Some.is c.in_ok-push.ensures.items (made es h) (follows es h);
