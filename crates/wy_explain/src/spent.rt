@@ -104,10 +104,25 @@ fn put_splits(
         text.text("   ")?;
         text.number(counts.get(number).copied().unwrap_or(0))?;
         text.text(" times: ")?;
-        put_formula(&mut text, words, facts[number].atom, true)?;
+        let mut formula = Page::new(alloc);
+        put_formula(&mut formula, words, facts[number].atom, true)?;
+        put_cut(&mut text, formula.as_slice())?;
         finding.labels.push(Label { text, span: None })?;
     }
     finding.names = naming.notes(alloc)?;
+    Ok(())
+}
+
+// A text, or its first 75 bytes; a character isn't cut in two.
+fn put_cut(page: &mut Page, text: &[u8]) -> Result<(), NoMemory> {
+    let mut count = 0usize;
+    for byte in text {
+        if count >= 75 && (*byte < 128 || *byte >= 192) {
+            return page.text(" ..");
+        }
+        page.repeat(*byte, 1)?;
+        count = count.saturating_add(1);
+    }
     Ok(())
 }
 
