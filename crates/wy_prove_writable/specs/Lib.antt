@@ -1,6 +1,5 @@
 -- what public contracts cite
 pub mod Trees
-pub mod Written
 -- what crates above need too of what can be written
 pub use Rattle.wy_check_laws.specs.reread.Writable
 -- what functions inside owe each other

@@ -16,4 +16,4 @@ mod sorted;
 mod testing;
 
 pub use law::valid_certificates_are_trees;
-pub use testing::{is_certificate_writable, written};
+pub use testing::is_certificate_writable;

@@ -4,7 +4,6 @@ ghost use Rattle.wy_cert.specs.Steps.{IsBelow, NamesItsTerms, steps_of, written}
 ghost use Rattle.wy_check_laws.specs.reread.Writable.{AreWritable, IsWritable};
 ghost use Rattle.wy_term.specs.Nodes.{tree_at};
 ghost use Rattle.wy_prove_writable.specs.Listed.{TellWritable};
-ghost use Rattle.wy_prove_writable.specs.Written.{IsWritten};
 
 use crate::arguments::{are_arguments, are_terms, is_writable};
 use crate::listed::writable_terms;
@@ -68,16 +67,4 @@ pub fn is_certificate_writable(cert: &Cert) -> Result<bool, NoMemory>
 {
     let copies = writable_terms(&cert.terms)?;
     Ok(are_steps_writable(&cert.terms, &copies, &cert.steps))
-}
-
-/// The certificate, which can be written. Want of memory is also the answer where it can't be, since a file has no room for a name
-/// or a number of it, and where that of `is_certificate_writable` is.
-pub fn written(cert: Cert) -> Result<Cert, NoMemory>
-    requires { NamesItsTerms cert }
-    ensures { IfOk result (IsWritten cert) }
-{
-    if !is_certificate_writable(&cert)? {
-        return Err(NoMemory);
-    }
-    Ok(cert)
 }
