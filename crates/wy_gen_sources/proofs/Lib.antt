@@ -1,3 +1,5 @@
+pub mod code_lemmas
+pub mod programs_lemmas
 pub mod named_programs_lemmas
 pub mod source_ints_lemmas
 pub mod sourced_code_lemmas

@@ -1,3 +1,5 @@
+pub mod code
+pub mod programs
 pub mod named_programs
 pub mod source_ints
 pub mod sourced_code

@@ -2,9 +2,9 @@
 use Rattle.std.proofs.Common.{map, subst}
 use Rattle.wy_top.specs.wy_top_source.wy_ast.SurfaceSeen.{seen_decl}
 use Rattle.wy_core.specs.CoreSeen.{seen_core}
-use Rattle.wy_gen_kept.specs.code.Dead.{Asked, RunsKeep}
-use Rattle.wy_gen_kept.proofs.code_lemmas.ProgramLemmas.{nothing_dead}
-use Rattle.wy_gen_kept.proofs.programs_lemmas.DeclLemmas.{named_own}
+use Rattle.wy_gen_sources.specs.code.Dead.{Asked, RunsKeep}
+use Rattle.wy_gen_sources.proofs.code_lemmas.ProgramLemmas.{nothing_dead}
+use Rattle.wy_gen_sources.proofs.programs_lemmas.DeclLemmas.{named_own}
 use Rattle.wy_top.proofs.wy_gen_sources_proofs.source_ints_lemmas.FormedInts.{source-formed}
 use Rattle.wy_top.proofs.wy_gen_sources_proofs.sourced_code_lemmas.SourceLemmas.{spelled_as_asked}
 use Rattle.wy_headline.specs.Sources.{SourcesKeepNothingDead}

@@ -8,7 +8,7 @@ use Rattle.wy_top.specs.wy_top_answers.declared.answer.Answer.{Answer}
 use Rattle.wy_top.specs.Acceptance.{Acceptance}
 use Rattle.wy_top.specs.Launching.{run_steps, starts}
 use Rattle.wy_top.specs.Statement.{IsRun}
-use Rattle.wy_gen_kept.specs.code.Dead.{RunsKeep}
+use Rattle.wy_gen_sources.specs.code.Dead.{RunsKeep}
 use Rattle.wy_value.specs.Datum.{Datum}
 use Rattle.wy_headline.specs.Accepted.{AcceptsFile, AreTold, IsCutShort}
 use Rattle.wy_headline.specs.Runs.{EndsDone, Entry, IsDoneWithin, MeetsPostcondition, NeverFaults, ShowsCutOff, ShowsFailed, ShowsResult, ShowsSpent}

@@ -11,7 +11,7 @@ use Rattle.wy_sound.specs.wy_vc_laws.shown.Certified.{AllHold}
 use Rattle.wy_sound.specs.Sound.{Shown}
 use Rattle.wy_top.specs.wy_mach_run.sound.Runs.{RunsRightly, run_by}
 use Rattle.wy_top.specs.wy_top_source.Sources.{IsProgram}
-use Rattle.wy_gen_kept.specs.code.Dead.{RunsKeep}
+use Rattle.wy_gen_sources.specs.code.Dead.{RunsKeep}
 use Rattle.wy_top.specs.wy_gen_sources.sourced_code.Cores.{AsCodeAsks}
 use Rattle.wy_value.specs.Seen.{seen, seen_items}
 use Rattle.wy_value.specs.Values.{AreValues}

@@ -65,6 +65,6 @@ pub found_for : (p : Program) (budget : ℕ) (j : Judged) (list : List Cond) (vs
 found_for p budget j list vs certs conds verdicts conditions known_so h =
     let whole : map (condition_of j.conds.terms) list ≡ conditions_of p = ap (map (condition_of j.conds.terms)) conds ∙ conditions in
     let so = subst (λ (ws : List Verdict). AreKnown [] budget 1 (map (condition_of j.conds.terms) list) (map known ws)) (sym verdicts)
-        (subst (λ (cs : List Condition). AreKnown [] budget 1 cs (map known j.verdicts.items)) (sym whole) known_so) in
+    (subst (λ (cs : List Condition). AreKnown [] budget 1 cs (map known j.verdicts.items)) (sym whole) known_so) in
     subst (λ (cs : List Condition). AreFor 1 cs (map known j.verdicts.items) (certificates_of certs)) whole
     (subst (λ (ws : List Verdict). AreFor 1 (map (condition_of j.conds.terms) list) (map known ws) (certificates_of certs)) verdicts (h so))

@@ -3,3 +3,4 @@ pub mod Draws
 pub mod Bodies
 pub mod Source
 pub mod Rows
+pub mod Tree

@@ -11,38 +11,38 @@ use Rattle.wy_prove.proofs.AnswerLemmas.{ends_with, found_within, has_verdict, n
 use Rattle.wy_prove.proofs.answering.found.Goals as goal
 
 pub written-requires : goal.written-requires
-written-requires c = subst (λ (o : Option Cert). IfSome o NamesItsTerms) c.in-Some.is c.in_ok-written_by.ensures.names
+written-requires c = subst (λ (o : Option Cert). IfSome o NamesItsTerms) c.in-Some.is c.in_ok-cert.ensures.names
 
-pub returns-in_ok-written-clause-exactly : goal.returns-in_ok-written-clause-exactly
-returns-in_ok-written-clause-exactly c =
+pub returns-in_ok-written-in-Some-clause-exactly : goal.returns-in_ok-written-in-Some-clause-exactly
+returns-in_ok-written-in-Some-clause-exactly c =
     let k = condition_of c.args.terms.now c.args.cond.now in
     let v = has_verdict k c.args.budget c.requires.formed in
-    let whole = subst (IsFinished k v.0) c.in-Some.is (c.in_ok-written_by.ensures.value v.0 (ends_with k c.args.budget c.requires.formed)) in
+    let whole = subst (IsFinished k v.0) c.in-Some.is (c.in_ok-cert.ensures.value v.0 (ends_with k c.args.budget c.requires.formed)) in
     found_within k c.args.budget v.0 v.1 whole.found
 
-pub returns-in_ok-written-clause-valid : goal.returns-in_ok-written-clause-valid
-returns-in_ok-written-clause-valid c =
+pub returns-in_ok-written-in-Some-clause-valid : goal.returns-in_ok-written-in-Some-clause-valid
+returns-in_ok-written-in-Some-clause-valid c =
     let k = condition_of c.args.terms.now c.args.cond.now in
     let v = has_verdict k c.args.budget c.requires.formed in
-    let whole = subst (IsFinished k v.0) c.in-Some.is (c.in_ok-written_by.ensures.value v.0 (ends_with k c.args.budget c.requires.formed)) in
-    told_of_it (λ (x : Cert). IsValid k (steps_of x)) c.in-Some.cert c.in_ok-written.field-0 c.in_ok-written.ensures.0 whole.valid
+    let whole = subst (IsFinished k v.0) c.in-Some.is (c.in_ok-cert.ensures.value v.0 (ends_with k c.args.budget c.requires.formed)) in
+    told_of_it (λ (x : Cert). IsValid k (steps_of x)) c.in-Some.cert c.in_ok-written-in-Some.field-0 c.in_ok-written-in-Some.ensures.0 whole.valid
 
-pub returns-in_ok-written-clause-sorted : goal.returns-in_ok-written-clause-sorted
-returns-in_ok-written-clause-sorted c =
+pub returns-in_ok-written-in-Some-clause-sorted : goal.returns-in_ok-written-in-Some-clause-sorted
+returns-in_ok-written-in-Some-clause-sorted c =
     let k = condition_of c.args.terms.now c.args.cond.now in
     let v = has_verdict k c.args.budget c.requires.formed in
-    let whole = subst (IsFinished k v.0) c.in-Some.is (c.in_ok-written_by.ensures.value v.0 (ends_with k c.args.budget c.requires.formed)) in
-    told_of_it (λ (x : Cert). AreSortedSteps (steps_of x)) c.in-Some.cert c.in_ok-written.field-0 c.in_ok-written.ensures.0 whole.sorted
+    let whole = subst (IsFinished k v.0) c.in-Some.is (c.in_ok-cert.ensures.value v.0 (ends_with k c.args.budget c.requires.formed)) in
+    told_of_it (λ (x : Cert). AreSortedSteps (steps_of x)) c.in-Some.cert c.in_ok-written-in-Some.field-0 c.in_ok-written-in-Some.ensures.0 whole.sorted
 
-pub returns-in_ok-written-clause-writable : goal.returns-in_ok-written-clause-writable
-returns-in_ok-written-clause-writable c = told_of_it (λ (x : Cert). AreWritable (steps_of x)) c.in-Some.cert c.in_ok-written.field-0 c.in_ok-written.ensures.0 c.in_ok-written.ensures.1
+pub returns-in_ok-written-in-Some-clause-writable : goal.returns-in_ok-written-in-Some-clause-writable
+returns-in_ok-written-in-Some-clause-writable c = told_of_it (λ (x : Cert). AreWritable (steps_of x)) c.in-Some.cert c.in_ok-written-in-Some.field-0 c.in_ok-written-in-Some.ensures.0 c.in_ok-written-in-Some.ensures.1
 
-pub returns-in_ok-written-clause-names : goal.returns-in_ok-written-clause-names
-returns-in_ok-written-clause-names c =
-    told_of_it NamesItsTerms c.in-Some.cert c.in_ok-written.field-0 c.in_ok-written.ensures.0 (subst (λ (o : Option Cert). IfSome o NamesItsTerms) c.in-Some.is c.in_ok-written_by.ensures.names)
+pub returns-in_ok-written-in-Some-clause-names : goal.returns-in_ok-written-in-Some-clause-names
+returns-in_ok-written-in-Some-clause-names c =
+    told_of_it NamesItsTerms c.in-Some.cert c.in_ok-written-in-Some.field-0 c.in_ok-written-in-Some.ensures.0 (subst (λ (o : Option Cert). IfSome o NamesItsTerms) c.in-Some.is c.in_ok-cert.ensures.names)
 
 pub returns-in-None-clause-exactly : goal.returns-in-None-clause-exactly
 returns-in-None-clause-exactly c =
     let k = condition_of c.args.terms.now c.args.cond.now in
     let v = has_verdict k c.args.budget c.requires.formed in
-    none_is_found k c.args.budget v.0 v.1 (subst (IsFinished k v.0) c.in-None.is (c.in_ok-written_by.ensures.value v.0 (ends_with k c.args.budget c.requires.formed)))
+    none_is_found k c.args.budget v.0 v.1 (subst (IsFinished k v.0) c.in-None.is (c.in_ok-cert.ensures.value v.0 (ends_with k c.args.budget c.requires.formed)))

@@ -1,2 +1,0 @@
-pub mod code_lemmas
-pub mod programs_lemmas

@@ -1,5 +1,0 @@
-use Rattle.wy_gen_kept.proofs.code_lemmas.ProgramLemmas.{nothing_dead}
-use Rattle.wy_gen_kept.proofs.code.nothing_dead_is_kept.Goals as goal
-
-pub returns : goal.returns
-returns c = record { keep = nothing_dead }
