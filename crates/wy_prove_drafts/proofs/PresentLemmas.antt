@@ -14,11 +14,11 @@ use Rattle.wy_prove_drafts.specs.Progress.{AreFit}
 
 only_terms_fit : (ts : List Term) → AreSortedTerms ts → AreFoldedTerms ts → AreFit (only_terms ts)
 only_terms_fit [] h g = tt
-only_terms_fit (t ∷ ts) h g = by (is_term_sort (sort_in t))
+only_terms_fit (t ∷ ts) h g = by (is_term_sort (sort_in t)) (only_terms_fit ts h.1 g.1)
   where
-    by : (b : Bool) → AreFit (cond b (t ∷ only_terms ts) (only_terms ts))
-    by true = (record { sorted = h.0; folded = g.0 }, only_terms_fit ts h.1 g.1)
-    by false = only_terms_fit ts h.1 g.1
+    by : (b : Bool) → AreFit (only_terms ts) → AreFit (cond b (t ∷ only_terms ts) (only_terms ts))
+    by true rest = (record { sorted = h.0; folded = g.0 }, rest)
+    by false rest = rest
 
 pub present_fit : (node : Node) → IsSortedNode node → IsFoldedThroughout node → AreFit (present node)
 present_fit node h g = only_terms_fit (standing node) (standing_sorted node h) (standing_folded node (record { literals = atoms_folded node.literals g.0; pending = formulas_folded node.pending g.1 }))
