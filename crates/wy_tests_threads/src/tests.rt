@@ -5,7 +5,8 @@ ghost use Rattle.std.specs.Thread.{IsSync};
 use std::alloc::Global;
 use std::test::Fail;
 use std::thread::{Threads, join};
-use wy_claim::{Claims, MAX_SEATS, NoMemory, Seat};
+use wy_batch::{Claims, MAX_SEATS, Seat};
+use wy_term::NoMemory;
 
 // A seat that has ended, and what it drew.
 type Drawn = Result<(Seat, Vec<u32>), NoMemory>;
