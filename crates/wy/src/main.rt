@@ -3,6 +3,7 @@
 //! It hands the words behind its own name to `wy_headline`, with the files of the system and the two standard streams, and
 //! ends with the status that comes back.
 #![tactic(auto)]
+
 ghost use Rattle.wy_headline.specs.System.{IsStatus};
 
 #[cfg(test)]

@@ -20,6 +20,9 @@ returns c =
       err_faults = c.run_words.new.err.faults;
     } in
     record {
-      status = (after, from_none _ before after c.run_words.result c.new-files.ensures.load_faults c.new-files.ensures.misses c.new-files.ensures.save_faults (ap (λ s. s.faults) c.new-out.ensures.value) (ap (λ s. s.faults) c.new-err.ensures.value)
-          (record { comes = c.run_words.ensures.comes; means = c.run_words.ensures.means; complete = c.run_words.ensures.complete }));
+      status = (
+        after,
+        from_none _ before after c.run_words.result c.new-files.ensures.load_faults c.new-files.ensures.misses c.new-files.ensures.save_faults (ap (λ s. s.faults) c.new-out.ensures.value) (ap (λ s. s.faults) c.new-err.ensures.value)
+            (record { comes = c.run_words.ensures.comes; means = c.run_words.ensures.means; complete = c.run_words.ensures.complete }),
+      );
     }
