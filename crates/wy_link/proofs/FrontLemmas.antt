@@ -129,7 +129,7 @@ type_refused ds core f h fails known = refused_by_types ds core f (type_cases f)
 
 -- types that another core of the program has are those of this one
 typed_here : (ds : List Decl) (core other : tree.Core ℕ) (flow : List Ty) → HasCore ds core → IsFront ds other flow → typing.IsTyped core flow
-typed_here ds core other flow h front = subst (λ (c : tree.Core ℕ). typing.IsTyped c flow) (one_core ds other core front.core h) front.typed
+typed_here ds core other flow h front = subst (λ (c : tree.Core ℕ). typing.IsTyped c flow) (one_core ds other core front.named h) front.typed
 
 fails_here : (ds : List Decl) (core : tree.Core ℕ) (g : FlowFault) → HasCore ds core → IsIllTyped ds g → typing.CoreTyped core (Fails g)
 fails_here ds core g h ill = subst (λ (c : tree.Core ℕ). typing.CoreTyped c (Fails g)) (one_core ds ill.core core ill.named h) ill.fails
@@ -158,12 +158,12 @@ type_own f = own_by_types f (type_cases f)
 
 pub front_is : (ds : List Decl) (core made : tree.Core ℕ) (flow : List Ty) → HasCore ds core → made ≡ core → typing.IsTyped core flow → IsFront ds made flow
 front_is ds core made flow h same typed =
-    record { core = subst (HasCore ds) (sym same) h; typed = subst (λ (c : tree.Core ℕ). typing.IsTyped c flow) (sym same) typed }
+    record { named = subst (HasCore ds) (sym same) h; typed = subst (λ (c : tree.Core ℕ). typing.IsTyped c flow) (sym same) typed }
 
 pub front_complete : (ds : List Decl) (core made : tree.Core ℕ) (own : List Ty) → HasCore ds core → made ≡ core → ((flow : List Ty) → typing.IsTyped core flow → own ≡ flow)
     → (other : tree.Core ℕ) (flow : List Ty) → IsFront ds other flow → (made ≡ other) × (own ≡ flow)
 front_complete ds core made own h same types other flow front =
-    (same ∙ one_core ds core other h front.core, types flow (typed_here ds core other flow h front))
+    (same ∙ one_core ds core other h front.named, types flow (typed_here ds core other flow h front))
 
 pub front_exact : (ds : List Decl) (core : tree.Core ℕ) → HasCore ds core → ((g : LinkFault) → IsRefused ds g → IsOfTypes g) → ((g : FlowFault) → typing.CoreTyped core (Fails g) → ⊥)
     → (g : LinkFault) → IsRefused ds g → ⊥

@@ -70,15 +70,15 @@ same_sight ms ns k number m n same within before alike =
 
 -- ---- in the program
 
-same_each : (ms ns : List Module) (k number : ℕ) (as bs : List Module) → SameHeaders (take k ms) (take k ns) → number + length as ≤ k → AreInOrder number as → SameHeaders as bs
-    → each headers ms number as ≡ each headers ns number bs
+same_each : (ms ns : List Module) (k number : ℕ) (ps qs : List Module) → SameHeaders (take k ms) (take k ns) → number + length ps ≤ k → AreInOrder number ps → SameHeaders ps qs
+    → each headers ms number ps ≡ each headers ns number qs
 same_each ms ns k number [] [] same within order alike = refl
-same_each ms ns k number [] (b ∷ bs) same within order alike = absurd alike
-same_each ms ns k number (a ∷ as) [] same within order alike = absurd alike
-same_each ms ns k number (a ∷ as) (b ∷ bs) same within order alike =
-    ap (λ (s : Sight). headers s a ++ each headers ms (number + 1) as) (same_sight ms ns k number a b same (omega (arith, within)) order.0 alike.0)
-    ∙ ap (λ (ds : List Decl). ds ++ each headers ms (number + 1) as) (same_headers (sight_of ns number b) a b alike.0)
-    ∙ ap (λ (ds : List Decl). headers (sight_of ns number b) b ++ ds) (same_each ms ns k (number + 1) as bs same (omega (arith, within)) order.1 alike.1)
+same_each ms ns k number [] (q ∷ qs) same within order alike = absurd alike
+same_each ms ns k number (p ∷ ps) [] same within order alike = absurd alike
+same_each ms ns k number (p ∷ ps) (q ∷ qs) same within order alike =
+    ap (λ (s : Sight). headers s p ++ each headers ms (number + 1) ps) (same_sight ms ns k number p q same (omega (arith, within)) order.0 alike.0)
+    ∙ ap (λ (ds : List Decl). ds ++ each headers ms (number + 1) ps) (same_headers (sight_of ns number q) p q alike.0)
+    ∙ ap (λ (ds : List Decl). headers (sight_of ns number q) q ++ ds) (same_each ms ns k (number + 1) ps qs same (omega (arith, within)) order.1 alike.1)
 
 order_taken : (number k : ℕ) (ms : List Module) → AreInOrder number ms → AreInOrder number (take k ms)
 order_taken number zero ms order = tt

@@ -24,7 +24,7 @@ pub record HasCore (ds : List Decl) (core : tree.Core ℕ) : Type 0 where
 
 -- they have this core, with these flow types
 pub record IsFront (ds : List Decl) (core : tree.Core ℕ) (flow : List Ty) : Type 0 where
-  pub core : HasCore ds core
+  pub named : HasCore ds core
   pub typed : typing.IsTyped core flow
 
 -- they have a core that is refused so

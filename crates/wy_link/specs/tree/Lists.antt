@@ -1,11 +1,10 @@
 -- What lists of nodes and parts of declarations stand for.
-use Rattle.std.specs.Prelude.{ℕ, List, map, Option, Some, None}
+use Rattle.std.specs.Prelude.{ℕ, List, map}
 use Rattle.wy_ast.specs.SurfaceTree as tree
-use Rattle.wy_ast.specs.SurfaceSeen.{SeenCase, stmt_kind_layer, case_layer, stmt_layer, seen_ty, seen_expr, seen_exprs, seen_stmt, seen_block, seen_param, seen_result}
+use Rattle.wy_ast.specs.SurfaceSeen.{SeenCase, stmt_kind_layer, case_layer, stmt_layer, seen_ty, seen_expr, seen_exprs, seen_block, seen_param, seen_result}
 use Rattle.wy_ast.specs.declared.types.Ty.{Ty}
 use Rattle.wy_ast.specs.declared.expressions.Expr.{Expr}
 use Rattle.wy_ast.specs.declared.statements.Case.{Case, fold-Case}
-use Rattle.wy_ast.specs.declared.statements.Stmt.{Stmt}
 use Rattle.wy_ast.specs.declared.declarations.Alias as rust_alias
 use Rattle.wy_ast.specs.declared.declarations.Function as rust_function
 use Rattle.wy_ast.specs.declared.declarations.Method as rust_method
@@ -26,11 +25,6 @@ seen_range r = (r.0, seen_expr r.1, seen_expr r.2)
 -- the case that the node stands for
 abbrev pub seen_case : Case → SeenCase
 seen_case = fold-Case (ℕ → tree.Stmt) SeenCase tree.Stmt stmt_kind_layer case_layer stmt_layer
-
--- the block of a `default`, where there is one
-abbrev pub seen_default : Option (List Stmt) → Option (List tree.Stmt)
-seen_default None = None
-seen_default (Some block) = Some (map seen_stmt block)
 
 -- the declarations that nodes stand for
 abbrev pub seen_alias : rust_alias.Alias → tree.Alias

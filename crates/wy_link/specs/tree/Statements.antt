@@ -1,5 +1,5 @@
 -- Statements of a module in the program that it is put into.
-use Rattle.std.specs.Prelude.{List, map, Option, Some, None}
+use Rattle.std.specs.Prelude.{map}
 use Rattle.wy_ast.specs.SurfaceSeen.{SeenCase}
 use Rattle.wy_ast.specs.SurfaceTree.{Step, IndexStep, FieldStep, Stmt, Stmts, Cases, DeclareStmt, AssignStmt, CallStmt, ReturnStmt, AssertStmt, BreakStmt, ContinueStmt, SkipStmt, FailStmt, IfStmt, WhileStmt, DoStmt, ForStmt, SwitchStmt, SwitchElseStmt, NoStmts, MoreStmts, NoCases, MoreCases}
 use Rattle.wy_link.specs.tree.Sights.{marked, moved}
@@ -42,8 +42,3 @@ abbrev mutual
 -- a case of a switch by itself
 abbrev pub in_case : Sight → SeenCase → SeenCase
 in_case s c = (map (in_expr s) c.0, in_stmts s c.1)
-
--- the block of a `default`, where there is one
-abbrev pub in_default : Sight → Option (List Stmt) → Option (List Stmt)
-in_default s None = None
-in_default s (Some block) = Some (map (in_stmt s) block)

@@ -1,8 +1,8 @@
 //! Expressions.
 ghost use Rattle.std.specs.Prelude.{◌≡◌, map, IfOk};
-ghost use Rattle.wy_ast.specs.SurfaceSeen.{seen_expr, seen_exprs, seen_option};
+ghost use Rattle.wy_ast.specs.SurfaceSeen.{seen_expr, seen_exprs, seen_fields, seen_option, seen_ranges};
+ghost use Rattle.wy_ast.specs.SurfaceTree.{exprs_of};
 ghost use Rattle.wy_link.specs.tree.Expressions as spec;
-ghost use Rattle.wy_link.specs.tree.Lists.{seen_field, seen_range};
 
 use crate::tree::sight::{Sight, marked, moved};
 use crate::tree::types::in_ty;
@@ -147,9 +147,10 @@ fn boxed(alloc: Global, sight: &Sight, part: &Boxed<Expr>) -> Result<Boxed<Expr>
 
 /// These expressions.
 #[cycle(expr)]
-#[tactic(auto, using(crate::proofs::tree_lemmas::ListLemmas::exprs_more))]
+#[tactic(auto, using(crate::proofs::tree_lemmas::ListLemmas::exprs_more, crate::proofs::tree_lemmas::ChainLemmas::exprs_chain))]
 pub fn in_exprs(alloc: Global, sight: &Sight, exprs: &[Expr]) -> Result<Items<Expr>, AllocError>
     ensures value { IfOk result (λ made. seen_exprs made ≡ map (spec.in_expr sight.now) (seen_exprs exprs.now)) }
+    ensures chain { IfOk result (λ made. exprs_of (seen_exprs made) ≡ spec.in_exprs sight.now (exprs_of (seen_exprs exprs.now))) }
 {
     let mut made = Items::new(alloc);
     for expr in exprs {
@@ -159,13 +160,13 @@ pub fn in_exprs(alloc: Global, sight: &Sight, exprs: &[Expr]) -> Result<Items<Ex
 }
 
 #[cycle(expr)]
-#[tactic(auto, using(crate::proofs::tree_lemmas::ListLemmas::fields_more))]
+#[tactic(auto, using(crate::proofs::tree_lemmas::ListLemmas::fields_more, crate::proofs::tree_lemmas::ChainLemmas::fields_chain))]
 fn in_fields(
     alloc: Global,
     sight: &Sight,
     fields: &[(Name, Expr)],
 ) -> Result<Items<(Name, Expr)>, AllocError>
-    ensures value { IfOk result (λ made. map seen_field made ≡ map (spec.in_field sight.now) (map seen_field fields.now)) }
+    ensures chain { IfOk result (λ made. seen_fields made ≡ spec.in_fields sight.now (seen_fields fields.now)) }
 {
     let mut made = Items::new(alloc);
     for field in fields {
@@ -176,13 +177,13 @@ fn in_fields(
 }
 
 #[cycle(expr)]
-#[tactic(auto, using(crate::proofs::tree_lemmas::ListLemmas::ranges_more))]
+#[tactic(auto, using(crate::proofs::tree_lemmas::ListLemmas::ranges_more, crate::proofs::tree_lemmas::ChainLemmas::ranges_chain))]
 fn in_ranges(
     alloc: Global,
     sight: &Sight,
     ranges: &[(Name, Expr, Expr)],
 ) -> Result<Items<(Name, Expr, Expr)>, AllocError>
-    ensures value { IfOk result (λ made. map seen_range made ≡ map (spec.in_range sight.now) (map seen_range ranges.now)) }
+    ensures chain { IfOk result (λ made. seen_ranges made ≡ spec.in_ranges sight.now (seen_ranges ranges.now)) }
 {
     let mut made = Items::new(alloc);
     for range in ranges {

@@ -1,7 +1,8 @@
 //! Statements.
 ghost use Rattle.std.specs.Prelude.{◌≡◌, map, IfOk};
-ghost use Rattle.wy_ast.specs.SurfaceSeen.{seen_step, seen_stmt};
-ghost use Rattle.wy_link.specs.tree.Lists.{seen_case, seen_default};
+ghost use Rattle.wy_ast.specs.SurfaceSeen.{seen_block, seen_step, seen_stmt};
+ghost use Rattle.wy_ast.specs.SurfaceTree.{cases_of};
+ghost use Rattle.wy_link.specs.tree.Lists.{seen_case};
 ghost use Rattle.wy_link.specs.tree.Statements as spec;
 
 use crate::tree::expressions::{in_expr, in_exprs, in_option};
@@ -115,20 +116,28 @@ fn in_stmt(alloc: Global, sight: &Sight, stmt: &Stmt) -> Result<Stmt, AllocError
         StmtKind::Switch(value, cases, default) => {
             let value = in_expr(alloc, sight, value)?;
             let cases = in_cases(alloc, sight, cases.as_slice())?;
-            let default = in_default(alloc, sight, default)?;
-            Ok(Stmt {
-                at,
-                kind: StmtKind::Switch(value, cases, default),
-            })
+            match default {
+                None => Ok(Stmt {
+                    at,
+                    kind: StmtKind::Switch(value, cases, None),
+                }),
+                Some(block) => {
+                    let block = in_block(alloc, sight, block.as_slice())?;
+                    Ok(Stmt {
+                        at,
+                        kind: StmtKind::Switch(value, cases, Some(block)),
+                    })
+                }
+            }
         }
     }
 }
 
 /// The statements of a block.
 #[cycle(stmt)]
-#[tactic(auto, using(crate::proofs::tree_lemmas::ListLemmas::stmts_more))]
+#[tactic(auto, using(crate::proofs::tree_lemmas::ListLemmas::stmts_more, crate::proofs::tree_lemmas::ChainLemmas::stmts_chain))]
 pub fn in_block(alloc: Global, sight: &Sight, stmts: &[Stmt]) -> Result<Items<Stmt>, AllocError>
-    ensures value { IfOk result (λ made. map seen_stmt made ≡ map (spec.in_stmt sight.now) (map seen_stmt stmts.now)) }
+    ensures chain { IfOk result (λ made. seen_block made ≡ spec.in_stmts sight.now (seen_block stmts.now)) }
 {
     let mut made = Items::new(alloc);
     for stmt in stmts {
@@ -138,23 +147,9 @@ pub fn in_block(alloc: Global, sight: &Sight, stmts: &[Stmt]) -> Result<Items<St
 }
 
 #[cycle(stmt)]
-fn in_default(
-    alloc: Global,
-    sight: &Sight,
-    default: &Option<Items<Stmt>>,
-) -> Result<Option<Items<Stmt>>, AllocError>
-    ensures value { IfOk result (λ made. seen_default made ≡ spec.in_default sight.now (seen_default default.now)) }
-{
-    match default {
-        None => Ok(None),
-        Some(block) => Ok(Some(in_block(alloc, sight, block.as_slice())?)),
-    }
-}
-
-#[cycle(stmt)]
-#[tactic(auto, using(crate::proofs::tree_lemmas::ListLemmas::cases_more))]
+#[tactic(auto, using(crate::proofs::tree_lemmas::ListLemmas::cases_more, crate::proofs::tree_lemmas::ChainLemmas::cases_chain))]
 fn in_cases(alloc: Global, sight: &Sight, cases: &[Case]) -> Result<Items<Case>, AllocError>
-    ensures value { IfOk result (λ made. map seen_case made ≡ map (spec.in_case sight.now) (map seen_case cases.now)) }
+    ensures chain { IfOk result (λ made. cases_of (map seen_case made) ≡ spec.in_cases sight.now (cases_of (map seen_case cases.now))) }
 {
     let mut made = Items::new(alloc);
     for case in cases {

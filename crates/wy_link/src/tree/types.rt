@@ -1,6 +1,7 @@
 //! Types.
 ghost use Rattle.std.specs.Prelude.{◌≡◌, map, IfOk};
 ghost use Rattle.wy_ast.specs.SurfaceSeen.{seen_ty};
+ghost use Rattle.wy_ast.specs.SurfaceTree.{field_tys_of};
 ghost use Rattle.wy_link.specs.tree.Lists.{seen_field_ty};
 ghost use Rattle.wy_link.specs.tree.Types as spec;
 
@@ -92,13 +93,13 @@ fn boxed(alloc: Global, sight: &Sight, part: &Boxed<Ty>) -> Result<Boxed<Ty>, Al
 }
 
 #[cycle(ty)]
-#[tactic(auto, using(crate::proofs::tree_lemmas::ListLemmas::field_tys_more))]
+#[tactic(auto, using(crate::proofs::tree_lemmas::ListLemmas::field_tys_more, crate::proofs::tree_lemmas::ChainLemmas::field_tys_chain))]
 fn in_fields(
     alloc: Global,
     sight: &Sight,
     fields: &[(Name, Ty)],
 ) -> Result<Items<(Name, Ty)>, AllocError>
-    ensures value { IfOk result (λ made. map seen_field_ty made ≡ map (spec.in_field sight.now) (map seen_field_ty fields.now)) }
+    ensures chain { IfOk result (λ made. field_tys_of (map seen_field_ty made) ≡ spec.in_fields sight.now (field_tys_of (map seen_field_ty fields.now))) }
 {
     let mut made = Items::new(alloc);
     for field in fields {
