@@ -121,7 +121,7 @@ FailsAlone core f = (g : FlowFault) → typing.CoreTyped core (Fails g) → f �
 refused_by_types : (ds : List Decl) (core : tree.Core ℕ) (f : FlowFault) → Types f → HasCore ds core → (f ≢ flow_fault.NoMemory → typing.CoreTyped core (Fails f))
     → of_types f ≢ NoMemory → IsRefused ds (of_types f)
 refused_by_types ds core f (inl m) h fails known = absurd (known m.1)
-refused_by_types ds core f (inr o) h fails known = subst (IsRefused ds) (sym o.1) (the (IsIllTyped ds f) (record { core = core; named = h; fails = fails o.0 }))
+refused_by_types ds core f (inr o) h fails known = let ill : IsIllTyped ds f = record { core = core; named = h; fails = fails o.0 } in subst (IsRefused ds) (sym o.1) ill
 
 pub type_refused : (ds : List Decl) (core : tree.Core ℕ) (f : FlowFault) → HasCore ds core → (f ≢ flow_fault.NoMemory → typing.CoreTyped core (Fails f))
     → of_types f ≢ NoMemory → IsRefused ds (of_types f)

@@ -60,10 +60,14 @@ same_imports ms ns k number names (i ∷ is) same within before =
     same_imports ms ns k number (with_import names (slice_get ms i)) is same within before.1
     ∙ ap (λ (s : Scope). with_imports ns s is) (same_import ms ns k i names same (omega (arith, before.0, within)))
 
+-- a module with this number sees these names
+abbrev sees : ℕ → Scope → Sight
+sees number names = record { names = names; shift = start_of number }
+
 same_sight : (ms ns : List Module) (k number : ℕ) (m n : Module) → SameHeaders (take k ms) (take k ns) → number ≤ k → AllByRecursion (λ i. i < number) m.imports → SameHeader m n
     → sight_of ms number m ≡ sight_of ns number n
 same_sight ms ns k number m n same within before alike =
-    ap (λ (names : Scope). the Sight (record { names = names; shift = start_of number }))
+    ap (sees number)
     (ap (λ (s : Scope). with_names s (written m)) (same_imports ms ns k number [] m.imports same within before)
     ∙ ap (λ (is : List ℕ). with_names (with_imports ns [] is) (written m)) alike.imports
     ∙ same_names (with_imports ns [] n.imports) m n alike)

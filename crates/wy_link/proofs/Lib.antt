@@ -10,5 +10,3 @@ pub mod PlainLemmas
 pub mod FrontLemmas
 -- what is left of a stub's conditions
 pub mod OwingLemmas
--- one more module is put behind the others
-pub mod ProgramLemmas

@@ -15,7 +15,11 @@ pub seen_more : (xs : List Decl) (x : Decl) → map seen_decl (xs ++ x ∷ []) �
 seen_more [] x = refl
 seen_more (y ∷ ys) x = ap (λ (l : List (tree.Decl ℕ)). seen_decl y ∷ l) (seen_more ys x)
 
+-- what a type stands for
+abbrev stands_for : tree.Alias ℕ → Declared
+stands_for a = record { ty = a.ty; constrained = is_some a.variable }
+
 pub types_stay : (ds : List (tree.Decl ℕ)) → names_in (plain ds) ≡ names_in ds
 types_stay [] = refl
-types_stay (tree.AliasDecl a ∷ ds) = ap (λ (l : List Declared). the Declared (record { ty = a.ty; constrained = is_some a.variable }) ∷ l) (types_stay ds)
+types_stay (tree.AliasDecl a ∷ ds) = ap (λ (l : List Declared). stands_for a ∷ l) (types_stay ds)
 types_stay (tree.RoutineDecl r ∷ ds) = types_stay ds

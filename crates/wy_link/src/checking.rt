@@ -62,10 +62,11 @@ fn typed(alloc: Global, program: &Program) -> Result<Typed, LinkFault>
         Ok(core) => core,
         Err(fault) => return Err(fault),
     };
-    match check(alloc, core) {
-        Ok(typed) => Ok(typed),
-        Err(fault) => Err(of_types(fault)),
-    }
+    let typed = match check(alloc, core) {
+        Ok(typed) => typed,
+        Err(fault) => return Err(of_types(fault)),
+    };
+    Ok(typed)
 }
 
 // Its core, without marks.
@@ -77,8 +78,10 @@ fn named(alloc: Global, program: &Program) -> Result<Core, LinkFault>
     ensures exact { (f : SomeFault) → spec.IsRefused (map seen_decl program.now.decls) f → MatchResult result (λ c. spec.IsOfTypes f) (λ e. e ≢ NoMemory → e ≡ f) }
     ensures own { IfErr result spec.IsOwn }
 {
-    match resolve(alloc, program) {
-        Ok(core) => Ok(plain(alloc, core)?),
-        Err(fault) => Err(of_names(fault)),
-    }
+    let marked = match resolve(alloc, program) {
+        Ok(marked) => marked,
+        Err(fault) => return Err(of_names(fault)),
+    };
+    let core = plain(alloc, marked)?;
+    Ok(core)
 }

@@ -42,24 +42,26 @@ pub fn owed(alloc: Global, modules: &[Module], k: u32, typed: &Typed) -> Result<
     };
     let Conds { terms, mut list } = conds;
     let skip = before(start_of(k), list.as_slice());
-    match list.split_off(skip) {
-        Ok(list) => Ok(Unit {
-            conds: Conds { terms, list },
-            skip: skip as u32,
-        }),
-        Err(_) => Err(VcFault::NoMemory),
-    }
+    let list = match list.split_off(skip as usize) {
+        Ok(own) => own,
+        Err(_) => return Err(VcFault::NoMemory),
+    };
+    Ok(Unit {
+        conds: Conds { terms, list },
+        skip,
+    })
 }
 
 // How many stand in front of the first at this place or behind it.
-fn before(start: u32, conds: &[Cond]) -> usize
+fn before(start: u32, conds: &[Cond]) -> u32
+    requires few { length conds.now ≤ 16384 }
     ensures value { (nodes : List Plain) → result ≡ spec.before start (map (seen_cond nodes) conds.now) }
     ensures within { result ≤ length conds.now }
 {
     for (place, cond) in conds.iter().enumerate() {
         if cond.at >= start {
-            return place;
+            return place as u32;
         }
     }
-    conds.len()
+    conds.len() as u32
 }

@@ -1,9 +1,9 @@
 //! Modules that are put together. What each comes to was worked out by hand from the rules of the language.
 use std::alloc::{AllocError, Global};
 use wy_core::Decl;
+use wy_flow_spec::typing::{FlowFault, Typed};
 use wy_items::Items;
 use wy_link::{LinkFault, MOST_MODULES, Module, SPAN, Spot, front, link, owed, spot_of};
-use wy_flow_spec::typing::{FlowFault, Typed};
 use wy_names::NameFault;
 use wy_parse_front::read;
 
@@ -203,8 +203,20 @@ fn faults_of_types_stand_in_their_module(rt: HostRuntime) -> Result<(), Trouble>
     let modules = chain(alloc, &[BASE, text])?;
     let fault = LinkFault::Flow(FlowFault::NotSubtype(place(1, 34)));
     assert_eq!(rt; refusal(alloc, modules.as_slice(), 1)?, fault);
-    assert_eq!(rt; spot_of(place(1, 34)), Spot { number: 1, offset: 34 });
-    assert_eq!(rt; spot_of(1_048_576), Spot { number: 0, offset: 1_048_576 });
+    assert_eq!(rt;
+        spot_of(place(1, 34)),
+        Spot {
+            number: 1,
+            offset: 34
+        }
+    );
+    assert_eq!(rt;
+        spot_of(1_048_576),
+        Spot {
+            number: 0,
+            offset: 1_048_576
+        }
+    );
     Ok(())
 }
 

@@ -39,9 +39,17 @@ fn with_mark(alloc: Global, name: &Name) -> Result<Name, AllocError>
 pub fn unmarked(alloc: Global, name: &Name) -> Result<Name, AllocError>
     ensures value { IfOk result (λ made. made ≡ spec.unmarked name.now) }
 {
-    match name.as_str().strip_prefix('.') {
-        Some(rest) => Ok(Name::new(String::from_str(alloc, rest)?)),
-        None => name.copy(alloc),
+    let text = String::from_str(alloc, without_mark(name.as_str()))?;
+    Ok(Name::new(text))
+}
+
+// The text without the mark in front, where it has one.
+fn without_mark(text: &str) -> &str
+    ensures value { result.now ≡ spec.unmarked text.now }
+{
+    match text.strip_prefix('.') {
+        Some(rest) => rest,
+        None => text,
     }
 }
 
