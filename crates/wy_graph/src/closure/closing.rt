@@ -96,8 +96,8 @@ fn read_clause(
 
 /// The least set of numbers below `count` that is closed under the clauses, as a mark for each
 /// number. Each clause is read at most once more than numbers that it mentions get a mark, and goes on
-/// at the first list of its body that wasn't met; what is kept takes memory linear in all that the
-/// clauses mention (Dowling and Gallier, Linear-time algorithms for propositional Horn formulae).
+/// at the first list of its body that wasn't met: unit propagation in time linear in all that the
+/// clauses mention, but for the numbers of one list, and in as much memory.
 pub fn close(alloc: Global, count: usize, clauses: &[Clause]) -> Result<Items<bool>, AllocError>
     requires heads { HaveHeads count clauses.now }
     ensures count { IfOk result (λ marks. length marks ≡ count) }
