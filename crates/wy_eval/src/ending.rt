@@ -58,6 +58,7 @@ pub fn eval(
         ticks,
         turns: 0,
         output: Vec::new(alloc),
+        waits: None,
     };
     let decls = core.decls.as_slice();
     let at = match find(decls, entry) {
@@ -72,6 +73,7 @@ pub fn eval(
         ticks: _,
         turns: _,
         output,
+        waits: _,
     } = meter;
     match ended {
         Ok(value) => Ok(EvalEnd::Done(value, output)),

@@ -21,6 +21,8 @@ mod RoutineLemmas
 pub mod BeginLemmas
 -- arguments and clauses, one behind the other
 mod TestLemmas
+-- answers that are known
+pub mod KnownLemmas
 -- what the laws of the semantics say of an end
 mod EndLemmas
 -- passed on to the crates above

@@ -8,6 +8,8 @@ pub mod Parts
 pub mod Scopes
 -- what contracts go by
 pub mod Settings
+-- what is known of questions that waited for room
+pub mod Known
 -- what a test of a precondition finds
 pub mod Verdicts
 -- passed on to the crates above

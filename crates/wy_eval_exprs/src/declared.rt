@@ -2,7 +2,9 @@
 ghost use Rattle.std.specs.Prelude.{◌≡◌, IfOk, map};
 ghost use Rattle.wy_core.specs.CoreSeen.{seen_alias, seen_core, seen_decl};
 ghost use Rattle.wy_core.specs.CoreTree.{aliases_of};
+ghost use Rattle.wy_eval_exprs.specs.Known.{AreTrue};
 
+use crate::known::Answer;
 use std::alloc::{AllocError, Global};
 use wy_core::{Alias, Core, Decl};
 use wy_items::Items;
@@ -16,11 +18,19 @@ use wy_items::Items;
 /// has there, three of `type List is null | {int head, List tail}`.
 pub const ROOM: u32 = 4096;
 
-/// The declared types of a program, by their numbers, and how many turns contracts may spend.
+// How many levels there must be first where a name is asked in a contract: its clauses and the types that they test
+// nest at most 400 deep up to the next name, and so take fewer.
+const AHEAD: u32 = 2048;
+
+/// The declared types of a program, by their numbers, how many turns contracts may spend, what is known of questions
+/// that waited for room, and how many levels there must be where a name is asked in a contract.
 #[derive(Drop)]
 pub struct Declared {
     pub types: Items<Alias>,
     pub limit: u64,
+    pub known: Items<Answer>,
+    pub ahead: u32,
+    pub ghost truths: { AreTrue (map seen_alias types) limit known },
 }
 
 impl Declared {
@@ -30,7 +40,13 @@ impl Declared {
         ensures limit { IfOk result (λ made. made.limit ≡ limit) }
     {
         let types = types_of(alloc, core.decls.as_slice())?;
-        Ok(Declared { types, limit })
+        let known = Items::new(alloc);
+        Ok(Declared {
+            types,
+            limit,
+            known,
+            ahead: AHEAD,
+        })
     }
 }
 

@@ -14,6 +14,8 @@ ghost use Rattle.wy_eval_exprs.specs.Settings.{asked_by, data_in, items_by, name
 use crate::aliases::{forgiven, store_of_alias};
 use crate::declared::Declared;
 use crate::kinds::{is_null, is_truth, is_whole, same_names};
+use crate::knowing::{again, known_answer};
+use crate::known::Question;
 use crate::meter::Meter;
 use crate::operands::{as_numbers, as_truth};
 use crate::operators::{applied, denied, early, length, negated};
@@ -410,9 +412,53 @@ pub fn asked(
     }
 }
 
+/// What a name asks. In a contract a question for which there is no room waits, and is asked again where its answer
+/// is known.
+#[cycle(contract)]
+pub fn name_asked(
+    alloc: Global,
+    room: u32,
+    declared: &Declared,
+    depth: usize,
+    paid: bool,
+    forgives: bool,
+    bare: usize,
+    number: u32,
+    value: &Value,
+    meter: &mut Meter,
+) -> Result<bool, Stop>
+    ensures value { Gives itself (named_by (questions (map seen_alias declared.now.types) declared.now.limit depth paid forgives) bare (seen value.now) number (meter_of meter.old)) result (meter_of meter.new) }
+{
+    if paid || !meter.is_of_contract() {
+        return name_visited(
+            alloc, room, declared, depth, paid, forgives, bare, number, value, meter,
+        );
+    }
+    let turns = meter.turns;
+    if let Some(known) = known_answer(declared, depth, forgives, bare, number, value, turns) {
+        meter.turns = known.turns;
+        return again(&known.found);
+    }
+    if room < declared.ahead {
+        let value = value.copy(alloc)?;
+        meter.waits = Some(Question {
+            number,
+            bare,
+            depth,
+            forgives,
+            value,
+            turns,
+        });
+        return Err(Stop::NoMemory);
+    }
+    name_visited(
+        alloc, room, declared, depth, paid, forgives, bare, number, value, meter,
+    )
+}
+
 /// A name asks its definition and then its clauses.
 #[cycle(contract)]
-fn name_asked(
+fn name_visited(
     alloc: Global,
     room: u32,
     declared: &Declared,

@@ -38,6 +38,8 @@ mod clauses;
 mod declared;
 mod evaluation;
 mod kinds;
+mod knowing;
+mod known;
 mod membership;
 mod meter;
 mod numbers;
@@ -49,6 +51,7 @@ mod precondition;
 mod precondition_clauses;
 mod routines;
 mod scope;
+mod settling;
 mod stop;
 mod updates;
 

@@ -1,7 +1,7 @@
 //! The test of a precondition.
 ghost use Rattle.std.specs.Prelude.{◌≡◌, IfOk, Some, None, map, true};
 ghost use Rattle.wy_core.specs.CoreSeen.{seen_alias, seen_core, seen_routine};
-ghost use Rattle.wy_core.specs.CoreTree.{routines_of};
+ghost use Rattle.wy_core.specs.CoreTree.{aliases_of, routines_of};
 ghost use Rattle.wy_value.specs.Seen.{seen};
 ghost use Rattle.wy_sem.specs.Evaluation.{callee, entry_of as spec_entry_of};
 ghost use Rattle.wy_sem.specs.Precondition.{Meets, callee_met as spec_callee_met, cost, precondition, requires_met as spec_requires_met, routine_met as spec_routine_met};
@@ -12,10 +12,12 @@ ghost use Rattle.wy_eval_exprs.specs.Verdicts.{IsExact, Says, is_verdict, verdic
 
 use crate::arguments::first_not_member;
 use crate::declared::Declared;
+use crate::known::Question;
 use crate::meter::Meter;
 use crate::precondition_clauses::first_not_true;
 use crate::routines::routine_at;
 use crate::scope::entry_of;
+use crate::settling::settled;
 use crate::stop::Stop;
 use std::alloc::Global;
 use wy_core::{Core, Routine};
@@ -44,9 +46,10 @@ pub enum MeetsEnd {
 /// turns, in the sizes of the clauses and in those of the values that they copy; the declared types
 /// are copied once.
 ///
-/// The stack is bounded: each nested visit takes one and each nested expression four of
-/// `ROOM` levels, 4,096 of them, and where these are used up the answer is want of memory.
-/// Expressions nest at most 400 deep in a clause, and arguments that are read at most 100.
+/// The stack is bounded, and the nesting isn't: each nested visit takes one and each nested expression four of `ROOM`
+/// levels, 4,096 of them, and a name for which they don't suffice waits on a work list until the test begins again
+/// with its answer. From then on each name waits, so what a name asks itself is asked once more for each name that it
+/// asks: such tests take time in the square of the items of a list.
 ///
 /// No accepted program has a call in a contract, or a circle of bare names; at one, the answer is want
 /// of memory, so `TurnsSpent` says that the turns were spent and nothing else.
@@ -60,18 +63,34 @@ pub fn meets(
     ensures value { IfOk result (λ end. Says end (precondition here (Some turns) (seen_core core.now) entry (map seen args.now))) }
     ensures exact { IfOk result (λ end. IsExact end turns (cost here (seen_core core.now) entry (map seen args.now)) (precondition here None (seen_core core.now) entry (map seen args.now)) (Meets here (seen_core core.now) entry (map seen args.now))) }
 {
-    let declared = Declared::of(alloc, core, turns)?;
-    let mut meter = Meter {
-        ticks: 0,
-        turns: 0,
-        output: Vec::new(alloc),
-    };
-    match callee_met(alloc, &declared, core, entry, args, &mut meter) {
+    let mut declared = Declared::of(alloc, core, turns)?;
+    for _turn in 0..u64::MAX {
+        match tried(alloc, &declared, core, entry, args) {
+            Ok(end) => return Ok(end),
+            Err(Some(question)) => declared = settled(alloc, declared, question)?,
+            Err(None) => return Err(NoMemory),
+        }
+    }
+    Err(NoMemory)
+}
+
+// What the test finds, or the question that has to be answered before it; none of them where memory ran out.
+fn tried(
+    alloc: Global,
+    declared: &Declared,
+    core: &Core,
+    entry: u32,
+    args: &[Value],
+) -> Result<MeetsEnd, Option<Question>>
+    requires types { map seen_alias declared.now.types ≡ aliases_of (seen_core core.now) }
+    ensures value { IfOk result (λ end. Says end (precondition here (Some declared.now.limit) (seen_core core.now) entry (map seen args.now))) }
+    ensures exact { IfOk result (λ end. IsExact end declared.now.limit (cost here (seen_core core.now) entry (map seen args.now)) (precondition here None (seen_core core.now) entry (map seen args.now)) (Meets here (seen_core core.now) entry (map seen args.now))) }
+{
+    let mut meter = Meter::of_contract(alloc, 0);
+    match callee_met(alloc, declared, core, entry, args, &mut meter) {
         Ok(end) => Ok(end),
         Err(Stop::Spent) => Ok(MeetsEnd::TurnsSpent),
-        Err(Stop::NoMemory) => Err(NoMemory),
-        Err(Stop::More) => Err(NoMemory),
-        Err(Stop::Fault(_, _)) => Err(NoMemory),
+        Err(_) => Err(meter.into_waiting()),
     }
 }
 

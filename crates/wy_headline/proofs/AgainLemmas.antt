@@ -9,7 +9,7 @@ use Rattle.wy_top.specs.wy_batch.Known.{IsSearched, Known, count, end_of, is_clo
 use Rattle.wy_top.specs.wy_cache_text.Files.{Entries}
 use Rattle.wy_top.specs.wy_top_answers.Answers.{no_memory as lacks_memory, refused, written}
 use Rattle.wy_top.specs.wy_top_answers.Showing.{Shown, ShowsWhole, Sinks}
-use Rattle.wy_top.specs.wy_top_answers.Steps.{Came, EndsFree, EndsOutside, Sense, Setting, IsTold, due, goes_on, stated}
+use Rattle.wy_top.specs.wy_top_answers.Steps.{Came, EndsOutside, Sense, Setting, IsTold, due, goes_on, stated}
 use Rattle.wy_top.specs.wy_top_answers.declared.answer.Answer.{Answer}
 use Rattle.wy_top.specs.wy_top_answers.report.Lines.{line, save_failed}
 use Rattle.wy_port.specs.declared.files.LoadFault.TheVariants as load
@@ -27,7 +27,6 @@ use Rattle.wy_top.specs.Saves as saves
 use Rattle.wy_top.specs.Statement.{IsRenewed, ShowsSaved}
 use Rattle.wy_headline.specs.Accepted.{IsCutShort, no_memory, sink_failed}
 use Rattle.wy_headline.specs.Again.{AreKeptOrFound, IsKeptOrFound, IsUnsaved, MeansAgain, Renewal, RenewalsAreRight, Renews, is_found as row_found, is_kept as row_kept, line_of}
-use Rattle.wy_headline.proofs.ApartLemmas.{Apart, none_is, no_0, no_1, other, outside_apart, value_apart}
 use Rattle.wy_headline.proofs.ExactLemmas.{shown_short, whole_or}
 use Rattle.wy_headline.proofs.StartedLemmas.{alone_due}
 use Rattle.wy_headline.proofs.StepLemmas.{Refuses, alone_refused, both_came, by_status, err_is, no_value, of_steps, outside_by, owes_refused, value_is}
@@ -43,17 +42,6 @@ module _ (P : Answer → Type 0) (c : Refuses P) where
   pub renewal_refused : (s : Setting) (source cache : List ℕ) (budget : ℕ) (a : Answer) → renews_file s source cache budget stated (Err a) → P a
   renewal_refused s source cache budget a h =
       of_steps P _ _ (λ b g. alone_refused P c s source b g) (λ bytes b g. of_steps P _ _ (λ d f. owes_refused P c source bytes d f) (λ p d f. of_steps P _ _ (λ e i. caches_refused s cache e i) (λ es e i. absurd i) d f) b g) a h
-
-answer_apart : (name bytes : List ℕ) (p : Program) (budget held : ℕ) (ks : List Known) (b : Bool) (a : Answer) → a ≡ renewal_answer name bytes p budget held ks b → Apart a
-answer_apart name bytes p budget held ks true a is = other 0 a _ is refl no_0
-answer_apart name bytes p budget held ks false a is = other 1 a _ is refl no_1
-
-pub renewal_good : (s : Setting) (source cache : List ℕ) (budget : ℕ) (a : Answer) → renews_file s source cache budget stated (Ok a) → Apart a
-renewal_good s source cache budget a h =
-    value_apart _ _ (λ bytes b g. value_apart _ _ (λ p c f. value_apart _ _ (λ es d e. answer_apart source bytes p budget (count is_kept e.verdicts) e.verdicts (are_closed e.verdicts) d e.answer) c f) b g) a h
-
-pub renewal_bad : (s : Setting) (source cache : List ℕ) (budget : ℕ) (a : Answer) → renews_file s source cache budget stated (Err a) → Apart a
-renewal_bad s source cache budget a h = renewal_refused Apart none_is s source cache budget a h
 
 -- ---- what is closed is kept or found
 
@@ -229,14 +217,13 @@ module _ (s : Setting) (source cache : List ℕ) (budget : ℕ) (v : Saving) (st
   save_or saved a (saves.no_memory same shown) = memory_cut a shown
 
   by_due : (last : Came Answer) (a : Answer) → renews_file s source cache budget stated last ⊎ EndsOutside s last → ShowsSaved (again.Renews s source cache budget) cache v status k last
-      → (let r : Came Answer = Ok a in r ≡ last) ⊎ EndsFree s last → Comes a
+      → (let r : Came Answer = Ok a in r ≡ last) ⊎ EndsOutside s last → Comes a
   by_due last a came shown (inl e) = by (subst (ShowsSaved (again.Renews s source cache budget) cache v status k) (sym e) shown)
     where
       by : ShowsSaved (again.Renews s source cache budget) cache v status k (Ok a) → Comes a
       by h = save_or h.0 a h.2
   by_due (Ok b) a came shown (inr never) = absurd never
-  by_due (Err b) a (inl came) shown (inr free) = inr (inl (shown_short s status k b (renewal_bad s source cache budget b came) free shown.0))
-  by_due (Err b) a (inr outside) shown (inr free) = inr (inl (shown_short s status k b (outside_apart s b outside) free shown.0))
+  by_due (Err b) a came shown (inr outside) = inr (inl (shown_short s status k b outside shown.0))
 
   means : IsRenewed s source cache budget v status k → MeansAgain s source cache budget status k
   means h = record {

@@ -6,7 +6,6 @@ use Rattle.wy_top.specs.wy_top_answers.declared.answer.Answer.{Answer}
 use Rattle.wy_top.specs.Acceptance.{Acceptance, check_steps, checked_answer}
 use Rattle.wy_top.specs.Statement.{IsAnswered}
 use Rattle.wy_headline.specs.Accepted.{AcceptsFile, ChecksAreRight}
-use Rattle.wy_headline.proofs.ApartLemmas.{Apart, check_bad, check_good, of_last}
 use Rattle.wy_headline.proofs.ExactLemmas.{exactly}
 use Rattle.wy_headline.proofs.StartedLemmas.{accepts_in, file_due}
 use Rattle.wy_headline.proofs.StepLemmas.{Refuses, both_came, by_status, file_refused, no_value, of_steps, outside_by, value_is}
@@ -53,11 +52,8 @@ module _ (s : Setting) (source cert : List ℕ) (budget status : ℕ) (k : Sinks
         let told = subst Told (sym h.answers.is) (by_last h.answers.last h.answers.gives.comes (subst (λ (a : Answer). a.status ≡ 0) h.answers.is is)) in
         (told.0, told.1, subst (λ (a : Answer). ShowsWhole a status k) told.2 w)
 
-    apart : Apart h.answer
-    apart = subst Apart (sym h.answers.is) (of_last s (check_steps s source cert budget) (check_good s source cert budget) (check_bad s source cert budget) h.answers.last h.answers.gives.comes)
-
 pub checks_right : ChecksAreRight
 checks_right s source cert budget status k h = record {
   accepted = accepted s source cert budget status k h;
-  accepted_where = λ told a file. exactly s status k (check_steps s source cert budget) h (apart s source cert budget status k h) (Ok (checked_answer a)) (goes_on a (file_due s source cert budget a told file) refl);
+  accepted_where = λ told a file. exactly s status k (check_steps s source cert budget) h (Ok (checked_answer a)) (goes_on a (file_due s source cert budget a told file) refl);
 }

@@ -3,7 +3,7 @@ use Rattle.std.proofs.Common.{◌≡◌, ◌⊎◌, inl, inr, ◌∙◌, ℕ, �
 use Rattle.wy_port.specs.Count.{Rose}
 use Rattle.wy_top.specs.wy_top_answers.Answers.{refused, no_memory}
 use Rattle.wy_top.specs.wy_top_answers.Showing.{Shown, ShowsWhole, Sinks}
-use Rattle.wy_top.specs.wy_top_answers.Steps.{Came, EndsFree, EndsOutside, IsFree, IsOutside, Sense, Setting, answer_in, due, failed, from_outside, memory, stated, uncertified}
+use Rattle.wy_top.specs.wy_top_answers.Steps.{Came, EndsOutside, IsOutside, Sense, Setting, answer_in, due, failed, memory, stated}
 use Rattle.wy_top.specs.wy_top_answers.declared.answer.Answer.{Answer}
 use Rattle.wy_top.specs.wy_top_answers.report.Lines.{words_refused}
 use Rattle.wy_top.specs.Large.{big_steps}
@@ -40,10 +40,6 @@ module _ (s : Setting) (v : Saving) (status : ℕ) (k : Sinks) (none : NoneRose 
   outside_9 a (memory e) w = w.answer ∙ ap (λ (b : Answer). b.status) e
   outside_9 a (failed name e rose) w = absurd (none.loads name rose)
 
-  free_so : (a : Answer) → IsFree s a → ShowsWhole a status k → (status ≡ 9) ⊎ (status ≡ 13)
-  free_so a (from_outside o) w = inl (outside_9 a o w)
-  free_so a (uncertified e) w = inr (w.answer ∙ ap (λ (b : Answer). b.status) e)
-
   short_9 : IsCutShort s status k → status ≡ 9
   short_9 (accepted.load_failed name rose shown) = absurd (none.loads name rose)
   short_9 (accepted.sink_failed is rose) = absurd (no_sink rose)
@@ -52,15 +48,15 @@ module _ (s : Setting) (v : Saving) (status : ℕ) (k : Sinks) (none : NoneRose 
   -- ---- commands that answer
 
   module _ (step : Sense → Came Answer → Type 0) where
-    only_so : (last other : Came Answer) → ShowsWhole (answer_in last) status k → (other ≡ last) ⊎ EndsFree s last → (other ≡ last) ⊎ ((status ≡ 9) ⊎ (status ≡ 13))
+    only_so : (last other : Came Answer) → ShowsWhole (answer_in last) status k → (other ≡ last) ⊎ EndsOutside s last → (other ≡ last) ⊎ (status ≡ 9)
     only_so last other w (inl e) = inl e
-    only_so (Ok a) other w (inr free) = absurd free
-    only_so (Err a) other w (inr free) = inr (free_so a free w)
+    only_so (Ok a) other w (inr outside) = absurd outside
+    only_so (Err a) other w (inr outside) = inr (outside_9 a outside w)
 
-    defined_so : (last : Came Answer) → step stated last → ShowsWhole (answer_in last) status k → ((other : Came Answer) → step due other → (other ≡ last) ⊎ EndsFree s last) → IsDefined s step status last
+    defined_so : (last : Came Answer) → step stated last → ShowsWhole (answer_in last) status k → ((other : Came Answer) → step due other → (other ≡ last) ⊎ EndsOutside s last) → IsDefined s step status last
     defined_so last came w only = record { comes = came; only = λ other is. only_so last other w (only other is) }
 
-    by_last : (last : Came Answer) → step stated last ⊎ EndsOutside s last → ShowsWhole (answer_in last) status k → ((other : Came Answer) → step due other → (other ≡ last) ⊎ EndsFree s last)
+    by_last : (last : Came Answer) → step stated last ⊎ EndsOutside s last → ShowsWhole (answer_in last) status k → ((other : Came Answer) → step due other → (other ≡ last) ⊎ EndsOutside s last)
         → AnswersWhole s step status k ⊎ (status ≡ 9)
     by_last last (inl came) w only = inl (record { last = last; defined = defined_so last came w only; shown = w })
     by_last (Ok a) (inr o) w only = absurd o
@@ -95,13 +91,13 @@ module _ (s : Setting) (v : Saving) (status : ℕ) (k : Sinks) (none : NoneRose 
     ran_whole l (code.sink_failed five rose took err) = absurd (no_sink rose)
     ran_whole l (code.no_memory nine took err) = inr nine
 
-    run_only : (r other : Came Launch) → ShowsRunWhole steps stats status k r → (other ≡ r) ⊎ EndsFree s r → (other ≡ r) ⊎ ((status ≡ 9) ⊎ (status ≡ 13))
+    run_only : (r other : Came Launch) → ShowsRunWhole steps stats status k r → (other ≡ r) ⊎ EndsOutside s r → (other ≡ r) ⊎ (status ≡ 9)
     run_only r other w (inl e) = inl e
-    run_only (Ok l) other w (inr free) = absurd free
-    run_only (Err a) other w (inr free) = inr (free_so a free w)
+    run_only (Ok l) other w (inr outside) = absurd outside
+    run_only (Err a) other w (inr outside) = inr (outside_9 a outside w)
 
     runs_whole : (r : Came Launch) → run_steps s source cert name arguments budget stated r → ShowsRunWhole steps stats status k r
-        → ((other : Came Launch) → run_steps s source cert name arguments budget due other → (other ≡ r) ⊎ EndsFree s r)
+        → ((other : Came Launch) → run_steps s source cert name arguments budget due other → (other ≡ r) ⊎ EndsOutside s r)
         → Headline s source cert name arguments budget steps stats status k → RunsWhole s source cert name arguments budget steps stats status k
     runs_whole r came w only h = record {
       launch = r;
@@ -111,7 +107,7 @@ module _ (s : Setting) (v : Saving) (status : ℕ) (k : Sinks) (none : NoneRose 
     }
 
     by_launch : (r : Came Launch) → run_steps s source cert name arguments budget stated r ⊎ EndsOutside s r → statement.ShowsRun steps stats status k r
-        → ((other : Came Launch) → run_steps s source cert name arguments budget due other → (other ≡ r) ⊎ EndsFree s r)
+        → ((other : Came Launch) → run_steps s source cert name arguments budget due other → (other ≡ r) ⊎ EndsOutside s r)
         → Headline s source cert name arguments budget steps stats status k → RunsWhole s source cert name arguments budget steps stats status k ⊎ (status ≡ 9)
     by_launch (Ok l) (inl came) shown only h = by (ran_whole l shown)
       where
@@ -166,11 +162,11 @@ module _ (s : Setting) (v : Saving) (status : ℕ) (k : Sinks) (none : NoneRose 
     saved_answer (Err a) w = w.0
 
     saves_whole : (r : Came Answer) → step stated r → ShowsSavedWhole made v status k r
-        → ((other : Came Answer) → step due other → (other ≡ r) ⊎ EndsFree s r) → SavesWhole s step made v status k
+        → ((other : Came Answer) → step due other → (other ≡ r) ⊎ EndsOutside s r) → SavesWhole s step made v status k
     saves_whole r came w only = record { last = r; defined = defined_so step r came (saved_answer r w) only; shown = w }
 
     by_saved : (r : Came Answer) → step stated r ⊎ EndsOutside s r → statement.ShowsSaved made name v status k r
-        → ((other : Came Answer) → step due other → (other ≡ r) ⊎ EndsFree s r) → SavesWhole s step made v status k ⊎ (status ≡ 9)
+        → ((other : Came Answer) → step due other → (other ≡ r) ⊎ EndsOutside s r) → SavesWhole s step made v status k ⊎ (status ≡ 9)
     by_saved (Ok a) (inl came) shown only = by (saved_whole shown.0 a shown.1 shown.2)
       where
         by : ShowsSavedWhole made v status k (Ok a) ⊎ (status ≡ 9) → SavesWhole s step made v status k ⊎ (status ≡ 9)

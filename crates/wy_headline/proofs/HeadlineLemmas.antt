@@ -2,7 +2,7 @@
 use Rattle.std.proofs.Common.{◌≡◌, ◌≢◌, ◌⊎◌, ◌<◌, inl, inr, ℕ, List, [], map, Bool, Some, None, Ok, Err, sym, ap, subst, arith}
 use Rattle.std.specs.Prelude.{⊤}
 use Rattle.wy_top.specs.wy_top_answers.Showing.{Shown, ShowsWhole, Sinks}
-use Rattle.wy_top.specs.wy_top_answers.Steps.{IsTold, Came, EndsFree, EndsOutside, Setting, due, ends, goes_on, stated}
+use Rattle.wy_top.specs.wy_top_answers.Steps.{IsTold, Came, EndsOutside, Setting, due, ends, goes_on, stated}
 use Rattle.wy_top.specs.wy_top_answers.declared.answer.Answer.{Answer}
 use Rattle.wy_top.specs.wy_mach_run.Running.{Counts, state_of}
 use Rattle.wy_value.specs.Seen.{seen}
@@ -18,7 +18,6 @@ use Rattle.wy_headline.specs.Accepted.{AcceptsFile, AreTold, IsCutShort}
 use Rattle.wy_headline.specs.Headline.{Accepts, HasNoRun, Headline, IsBefore, IsBehind, IsOfRun, RunsAreRight}
 use Rattle.wy_headline.specs.Runs.{Entry, IsCounted}
 use Rattle.wy_headline.specs.Started.{IsStarted}
-use Rattle.wy_headline.proofs.ApartLemmas.{Apart, outside_apart, run_apart}
 use Rattle.wy_headline.proofs.KeptLemmas.{sources_keep}
 use Rattle.wy_headline.proofs.ExactLemmas.{shown_short, whole_or}
 use Rattle.wy_headline.proofs.RunLemmas.{Shows, cut_off_of, enough_of, failed_of, result_of, spent_of, status_of}
@@ -105,10 +104,6 @@ run_behind n (inr (inl e)) = not_before n (λ f. omega (arith, e, f)) (λ f. ome
 run_behind n (inr (inr (inl e))) = not_before n (λ f. omega (arith, e, f)) (λ f. omega (arith, e, f)) (λ f. omega (arith, e, f)) (λ f. omega (arith, e, f))
 run_behind n (inr (inr (inr e))) = not_before n (λ f. omega (arith, e, f)) (λ f. omega (arith, e, f)) (λ f. omega (arith, e, f)) (λ f. omega (arith, e, f))
 
-pub none_apart : (s : Setting) (source cert name arguments : List ℕ) (budget : ℕ) (a : Answer) → HasNoRun s source cert name arguments budget a → Apart a
-none_apart s source cert name arguments budget a (inl h) = run_apart s source cert name arguments budget a h
-none_apart s source cert name arguments budget a (inr h) = outside_apart s a h
-
 no_entry : (e : Entry) → Some e ≡ None → ⊥
 no_entry e is = absurd cc
 
@@ -138,59 +133,52 @@ module _ (s : Setting) (source cert name arguments : List ℕ) (budget steps : �
 
   -- ---- what is due
 
-  -- where there is no run, the status isn't 13
-  abbrev IsNo13 : Came Launch → Type 0
-  IsNo13 (Ok l) = ⊤
-  IsNo13 (Err a) = Apart a
-
   -- of what came, nothing else is due
   abbrev Only : Came Launch → Type 0
-  Only r = (other : Came Launch) → run_steps s source cert name arguments budget due other → (other ≡ r) ⊎ EndsFree s r
+  Only r = (other : Came Launch) → run_steps s source cert name arguments budget due other → (other ≡ r) ⊎ EndsOutside s r
 
   -- a refusal that is due
-  refusal_due : (b : Answer) (r : Came Launch) → IsNo13 r → statement.ShowsRun steps stats status k r → (Err b ≡ r) ⊎ EndsFree s r → ShowsWhole b status k ⊎ IsCutShort s status k
-  refusal_due b (Ok l) apart shown (inl e) = absurd (no_value l b e)
-  refusal_due b (Ok l) apart shown (inr free) = absurd free
-  refusal_due b (Err a) apart shown (inl e) = whole_or s status k b (subst (λ (c : Answer). Shown c status k) (sym (err_is b a e)) shown)
-  refusal_due b (Err a) apart shown (inr free) = inr (shown_short s status k a apart free shown)
+  refusal_due : (b : Answer) (r : Came Launch) → statement.ShowsRun steps stats status k r → (Err b ≡ r) ⊎ EndsOutside s r → ShowsWhole b status k ⊎ IsCutShort s status k
+  refusal_due b (Ok l) shown (inl e) = absurd (no_value l b e)
+  refusal_due b (Ok l) shown (inr free) = absurd free
+  refusal_due b (Err a) shown (inl e) = whole_or s status k b (subst (λ (c : Answer). Shown c status k) (sym (err_is b a e)) shown)
+  refusal_due b (Err a) shown (inr free) = inr (shown_short s status k a free shown)
 
-  accepted_due : (r : Came Launch) → IsNo13 r → statement.ShowsRun steps stats status k r → Only r → AreTold s source cert → (a : Acceptance) → AcceptsFile s source cert budget a → (b : Answer) → starts name arguments a due (Err b)
+  accepted_due : (r : Came Launch) → statement.ShowsRun steps stats status k r → Only r → AreTold s source cert → (a : Acceptance) → AcceptsFile s source cert budget a → (b : Answer) → starts name arguments a due (Err b)
       → ShowsWhole b status k ⊎ IsCutShort s status k
-  accepted_due r apart shown only told a file b is = refusal_due b r apart shown (only (Err b) (goes_on a (file_due s source cert budget a told file) is))
+  accepted_due r shown only told a file b is = refusal_due b r shown (only (Err b) (goes_on a (file_due s source cert budget a told file) is))
 
   -- no run that is due was refused
-  refused_due : (a : Answer) → Apart a → Shown a status k → (l : Launch) → (launched l ≡ not_launched a) ⊎ EndsFree s (not_launched a) → IsCutShort s status k
-  refused_due a apart shown l (inl e) = absurd (no_err l a e)
-  refused_due a apart shown l (inr free) = shown_short s status k a apart free shown
+  refused_due : (a : Answer) → Shown a status k → (l : Launch) → (launched l ≡ not_launched a) ⊎ EndsOutside s (not_launched a) → IsCutShort s status k
+  refused_due a shown l (inl e) = absurd (no_err l a e)
+  refused_due a shown l (inr free) = shown_short s status k a free shown
 
   -- ---- both together
 
   with_none : (a : Answer) → HasNoRun s source cert name arguments budget a → Shown a status k → Only (not_launched a) → Headline s source cert name arguments budget steps stats status k
-  with_none a none shown only =
-      let apart = none_apart s source cert name arguments budget a none in
-      record {
-        run = None;
-        lines = [];
-        accepted = refused_behind a none shown;
-        accepted_where = accepted_due (Err a) apart shown only;
-        never_refused = accepted_behind a none shown;
-        starts_only = tt;
-        starts_where = λ told its e h. inr (refused_due a apart shown (launch_in s source cert name arguments budget its e h) (only _ (run_due s source cert name arguments budget its e told h)));
-        refused = λ is. (a, none, shown);
-        never_faults = tt;
-        nothing_dead = tt;
-        result = tt;
-        postcondition = tt;
-        spent = tt;
-        enough = tt;
-        status_is = tt;
-        sink_failed = tt;
-        no_memory = tt;
-      }
+  with_none a none shown only = record {
+    run = None;
+    lines = [];
+    accepted = refused_behind a none shown;
+    accepted_where = accepted_due (Err a) shown only;
+    never_refused = accepted_behind a none shown;
+    starts_only = tt;
+    starts_where = λ told its e h. inr (refused_due a shown (launch_in s source cert name arguments budget its e h) (only _ (run_due s source cert name arguments budget its e told h)));
+    refused = λ is. (a, none, shown);
+    never_faults = tt;
+    nothing_dead = tt;
+    result = tt;
+    postcondition = tt;
+    spent = tt;
+    enough = tt;
+    status_is = tt;
+    sink_failed = tt;
+    no_memory = tt;
+  }
 
   -- the run that is due is the one that came
   same_run : (l : Launch) (of : IsRunOf s source cert name arguments budget l) → IsTold s source → (its : List ℕ) (e : Entry) (h : IsStarted s source cert name arguments budget its e)
-      → (launched (launch_in s source cert name arguments budget its e h) ≡ launched l) ⊎ EndsFree s (launched l) → (Some (entry_of of.acceptance.program.core name arguments l.start of.launched.starts) ≡ Some e) ⊎ IsCutShort s status k
+      → (launched (launch_in s source cert name arguments budget its e h) ≡ launched l) ⊎ EndsOutside s (launched l) → (Some (entry_of of.acceptance.program.core name arguments l.start of.launched.starts) ≡ Some e) ⊎ IsCutShort s status k
   same_run l of told its e h (inl is) = inl (ap (λ (x : Entry). Some x) (one_entry s source cert name arguments budget its e h l of told (value_is _ l is)))
   same_run l of told its e h (inr free) = absurd free
 

@@ -18,7 +18,6 @@ use Rattle.wy_top.specs.declared.launching.Launch.{Launch}
 use Rattle.wy_headline.specs.Accepted.{AcceptsBytes, IsCutShort}
 use Rattle.wy_headline.specs.Large.{AnswersLarge, ComesToLarge, IsLargeRun, LargeRunsAreRight, RanLarge, large_start, line_written, ran_large, refused_large, steps_spend}
 use Rattle.wy_headline.specs.Runs.{Entry, MeetsPostcondition, NeverFaults}
-use Rattle.wy_headline.proofs.ApartLemmas.{Apart, no_0, no_10, no_8, none_is, other, outside_apart, starts_apart}
 use Rattle.wy_headline.proofs.ExactLemmas.{exactly}
 use Rattle.wy_headline.proofs.RunLemmas.{IsOf}
 use Rattle.wy_headline.proofs.StartedLemmas.{accepts_bytes, bytes_due, entry_of, faultless_run, is_start, launch_of, right_run, start_again, start_of, starts_so}
@@ -119,30 +118,12 @@ module _ (s : Setting) (functions seed budget steps : ℕ) where
   by_last (Err a) (inl came) = refused_large (inl (large_refused a came))
   by_last (Err a) (inr outside) = refused_large (inr outside)
 
--- the status isn't 13
-line_apart : (e : Entry) (functions conditions steps : ℕ) (a : Answer) → AnswersLarge e functions conditions steps a → Apart a
-line_apart e functions conditions steps a (line_written v output done is) = other 0 a _ is refl no_0
-line_apart e functions conditions steps a (steps_spend output goes is) = other 8 a _ is refl no_8
-
-made_apart : (functions seed : ℕ) (a : Answer) → makes_one functions seed (Err a) → Apart a
-made_apart functions seed a h = other 10 a _ h.1 refl no_10
-
--- a source that is made is accepted and started, or refused
-large_apart : (s : Setting) (functions seed budget : ℕ) (a : Answer) → large_start s functions seed budget stated (Err a) → Apart a
-large_apart s functions seed budget a h =
-    of_steps Apart _ _ (λ b g. made_apart functions seed b g) (λ bytes b g. of_steps Apart _ _ (λ c f. source_refused Apart none_is s large_name no_file budget bytes c f) (λ x c f. starts_apart entry (argument_text seed) x c f) b g) a h
-
-pub large_comes : (s : Setting) (functions seed budget steps : ℕ) (a : Answer) → ComesToLarge s functions seed budget steps a → Apart a
-large_comes s functions seed budget steps a (ran_large e of h) = line_apart _ _ _ _ a h.answers
-large_comes s functions seed budget steps a (refused_large (inl h)) = large_apart s functions seed budget a h
-large_comes s functions seed budget steps a (refused_large (inr h)) = outside_apart s a h
-
 module _ (s : Setting) (functions seed budget steps status : ℕ) (k : Sinks) (h : IsAnswered s (big_steps s functions seed budget steps) status k) where
   comes_so : ComesToLarge s functions seed budget steps h.answer
   comes_so = subst (ComesToLarge s functions seed budget steps) (sym h.answers.is) (by_last s functions seed budget steps h.answers.last h.answers.gives.comes)
 
   due_so : (e : Entry) (of : IsLargeRun s functions seed budget e) → ((a : Answer) × RanLarge s functions seed budget steps e of a × big_steps s functions seed budget steps due (Ok a)) → ((a : Answer) × RanLarge s functions seed budget steps e of a × ShowsWhole a status k) ⊎ IsCutShort s status k
-  due_so e of d = by (exactly s status k (big_steps s functions seed budget steps) h (large_comes s functions seed budget steps h.answer comes_so) (Ok d.0) d.2)
+  due_so e of d = by (exactly s status k (big_steps s functions seed budget steps) h (Ok d.0) d.2)
     where
       by : ShowsWhole d.0 status k ⊎ IsCutShort s status k → ((a : Answer) × RanLarge s functions seed budget steps e of a × ShowsWhole a status k) ⊎ IsCutShort s status k
       by (inl w) = inl (d.0, d.1, w)

@@ -3,7 +3,6 @@ pub mod KeptLemmas
 pub mod FaultLemmas
 pub mod AcceptedLemmas
 pub mod StepLemmas
-pub mod ApartLemmas
 pub mod ExactLemmas
 pub mod CertifiedLemmas
 pub mod StartedLemmas
@@ -12,7 +11,6 @@ pub mod RunLemmas
 pub mod UnrefusedLemmas
 pub mod HeadlineLemmas
 pub mod LargeLemmas
-pub mod SeenLemmas
 pub mod CandidateLemmas
 pub mod ProbeLemmas
 pub mod AgainLemmas

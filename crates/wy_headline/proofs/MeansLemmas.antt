@@ -12,7 +12,6 @@ use Rattle.wy_headline.proofs.CheckLemmas.{checks_right}
 use Rattle.wy_headline.proofs.HeadlineLemmas.{runs_right}
 use Rattle.wy_headline.proofs.LargeLemmas.{large_right}
 use Rattle.wy_headline.proofs.ProbeLemmas.{probes_right}
-use Rattle.wy_headline.proofs.SeenLemmas.{never_sticks}
 
 asked_means : (asked : Asked) (s : Setting) (v : Saving) (status : ℕ) (k : Sinks) → Does asked s v status k → MeansAsked asked s status k
 asked_means (check source cert budget) s v status k h = checks_right s source cert budget status k h
@@ -34,4 +33,4 @@ or_memory words s v status k (inl h) = inl (if_means (command_of words) s v stat
 or_memory words s v status k (inr shown) = inr shown
 
 pub calls_mean : CallsMean
-calls_mean words s v status k h = record { asked = or_memory words s v status k h; never = never_sticks words s v status k h }
+calls_mean words s v status k h = record { asked = or_memory words s v status k h }

@@ -19,11 +19,9 @@ use Rattle.wy_top.proofs.wy_top_source_proofs.OneLemmas.{one_core}
 use Rattle.wy_headline.specs.Accepted.{IsCutShort}
 use Rattle.wy_headline.specs.Probes.{Faults, FaultsIn, IsNeverAccepted, ProbesAreRight, answer_of}
 use Rattle.wy_headline.specs.Sources.{IsShown}
-use Rattle.wy_headline.proofs.ApartLemmas.{Apart, of_last}
 use Rattle.wy_headline.proofs.CandidateLemmas.{tuple_bounded}
 use Rattle.wy_headline.proofs.ExactLemmas.{exactly}
 use Rattle.wy_headline.proofs.FaultLemmas.{faultless}
-use Rattle.wy_headline.proofs.SeenLemmas.{probe_bad, probe_good}
 use Rattle.wy_headline.proofs.SourceLemmas.{source_shown}
 use Rattle.wy_headline.proofs.StartedLemmas.{accepted_hold, alone_due}
 use Rattle.wy_headline.proofs.StepLemmas.{Refuses, alone_refused, both_came, by_status, no_value, of_steps, outside_by, value_is}
@@ -152,12 +150,11 @@ module _ (s : Setting) (source name : List ℕ) (tuples ticks : ℕ) where
     shows_due : IsTold s source → (bytes : List ℕ) → IsAlone s source bytes → (f : Faults bytes name tuples ticks) → ShowsWhole (answer_of bytes name tuples ticks f) status k ⊎ IsCutShort s status k
     shows_due told bytes alone f =
         let steps = probe_steps s source name tuples ticks in
-        let apart = subst Apart (sym h.answers.is) (of_last s steps (probe_good s source name tuples ticks) (probe_bad s source name tuples ticks) h.answers.last h.answers.gives.comes) in
         let answer = answer_of bytes name tuples ticks f in
         let finding = Faulted f.number f.values f.kind f.at in
         let found : probes bytes f.core tuples ticks f.entry due (Ok answer) = record { finding = finding; finds = f.finds; answer = refl } in
         let entered : probes_source source name tuples ticks bytes due (Ok answer) = goes_on (checked f.core f.flow) f.program (goes_on f.entry (f.routine, f.named) found) in
-        exactly s status k steps h apart (Ok answer) (goes_on bytes (alone_due s source bytes told alone) entered)
+        exactly s status k steps h (Ok answer) (goes_on bytes (alone_due s source bytes told alone) entered)
 
 pub probes_right : ProbesAreRight
 probes_right s source name tuples ticks status k h = record { faults = shows_fault s source name tuples ticks status k h; is_due = shows_due s source name tuples ticks status k h }

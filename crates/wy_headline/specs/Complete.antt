@@ -34,10 +34,10 @@ pub record NoneRose (s : Setting) (v : Saving) (k : Sinks) : Type 0 where
   pub out : Rose k.out_faults_before k.out_faults_after → ⊥
   pub err : Rose k.err_faults_before k.err_faults_after → ⊥
 
--- these steps come to this; and of told files nothing else is due, but for want of memory, and for a condition that was found and not certified
+-- these steps come to this; and of told files nothing else is due, but for want of memory
 pub record IsDefined {X : Type 0} (s : Setting) (step : Sense → Came X → Type 0) (status : ℕ) (r : Came X) : Type 0 where
   pub comes : step stated r
-  pub only : (other : Came X) → step due other → (other ≡ r) ⊎ ((status ≡ 9) ⊎ (status ≡ 13))
+  pub only : (other : Came X) → step due other → (other ≡ r) ⊎ (status ≡ 9)
 
 -- an answer to which these steps come is shown whole
 pub record AnswersWhole (s : Setting) (step : Sense → Came Answer → Type 0) (status : ℕ) (k : Sinks) : Type 0 where

@@ -6,7 +6,6 @@ pub mod Runs
 pub mod Large
 pub mod Probes
 pub mod Again
-pub mod Seen
 pub mod Means
 pub mod Complete
 -- what is known of a call over real files and streams

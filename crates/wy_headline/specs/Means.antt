@@ -11,7 +11,6 @@ use Rattle.wy_headline.specs.Again.{MeansAgain}
 use Rattle.wy_headline.specs.Headline.{Headline}
 use Rattle.wy_headline.specs.Large.{ShowsLarge}
 use Rattle.wy_headline.specs.Probes.{MeansProbe}
-use Rattle.wy_headline.specs.Seen.{IsNeverStuck}
 
 -- of the commands that accept and run programs, and of the one that looks for faults
 abbrev pub MeansAsked : Asked → Setting → ℕ → Sinks → Type 0
@@ -29,10 +28,9 @@ abbrev pub MeansIf : Option Asked → Setting → ℕ → Sinks → Type 0
 MeansIf (Some asked) s status k = MeansAsked asked s status k
 MeansIf None s status k = ⊤
 
--- what words ask to accept is accepted exactly where it is to be, a run does what the program does, and a probe tells what faults, want of memory to read them aside; and whatever they ask for, status 13 comes of `prove` alone
+-- what words ask to accept is accepted exactly where it is to be, a run does what the program does, and a probe tells what faults, want of memory to read them aside
 pub record Means (words : List (List ℕ)) (s : Setting) (status : ℕ) (k : Sinks) : Type 0 where
   pub asked : MeansIf (command_of words) s status k ⊎ Shown no_memory status k
-  pub never : IsNeverStuck (command_of words) status k
 
 -- so does each call of which the clause of `run_words` holds
 abbrev pub CallsMean : Type 0

@@ -38,7 +38,7 @@ pub fn run_words<R: Threads + Sync, F: Files, O: Sink, E: Sink>(
     // The headline: a program is accepted exactly where it is typed and assigned and its conditions have
     // certificates, a run starts exactly where the arguments meet, it never faults, and does what the value semantics
     // says, and its contract holds. A fault that a probe tells is one of the value semantics, and never of an
-    // accepted program. Status 13 comes of `prove` alone.
+    // accepted program.
     ensures means { Means (words_in words.now)
         (setting (F.told files.old) (F.load_faults files.old) (F.load_faults files.new)
         (F.misses files.old) (F.misses files.new))

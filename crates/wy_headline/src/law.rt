@@ -6,7 +6,6 @@ ghost use Rattle.wy_headline.specs.Headline.{RunsAreRight};
 ghost use Rattle.wy_headline.specs.Large.{LargeRunsAreRight};
 ghost use Rattle.wy_headline.specs.Means.{CallsMean};
 ghost use Rattle.wy_headline.specs.Probes.{ProbesAreRight};
-ghost use Rattle.wy_headline.specs.Seen.{NeverSticks};
 
 /// All conditions of a program that is accepted are true.
 pub fn accepted_conditions_are_true()
@@ -51,12 +50,6 @@ pub fn probes_are_right()
 /// memory (9).
 pub fn renewals_are_right()
     ensures right { RenewalsAreRight }
-{}
-
-/// Whatever the words, a run never lacks a step: status 13 comes of the command `prove` alone, for a condition
-/// that was found and not certified, and for nothing else.
-pub fn the_machine_never_sticks()
-    ensures never { NeverSticks }
 {}
 
 /// What the clause of `run_words` says by the steps of the code means all of this.

@@ -9,7 +9,6 @@
 //! put to that: `specs/Headline` is the sentence on the command `run`, part by part, `specs/Accepted` which program
 //! is accepted, and `specs/Started` which is started, `specs/Runs` what a run does and what the sinks take of it,
 //! `specs/Large` what the command `big` comes to, `specs/Probes` what the one shows that looks for faults,
-//! `specs/Seen` that no call has status 13 but one of `prove`, for a condition that was found and not certified,
 //! `specs/Means` all of it of a call, and `specs/Complete` what a call comes to where nothing outside fails.
 #![tactic(auto)]
 
@@ -26,5 +25,5 @@ pub use commands::run_words;
 pub use law::{
     accepted_conditions_are_true, big_runs_are_right, calls_are_complete,
     calls_mean_what_programs_do, checks_are_right, probes_are_right, renewals_are_right,
-    runs_are_right, the_machine_never_sticks,
+    runs_are_right,
 };

@@ -1,7 +1,7 @@
 //! Certificates that can be written.
 ghost use Rattle.std.specs.Prelude.{◌≡◌, ◌<◌, ℕ, All, length, IfOk, IfSome};
 ghost use Rattle.wy_cert.specs.Steps.{steps_of, NamesItsTerms};
-ghost use Rattle.wy_prove.specs.Answers.{AnswersWhatIsFound, IsFormedThroughout, IsItIfWritable};
+ghost use Rattle.wy_prove.specs.Answers.{AnswersWhatIsFound, IsFormedThroughout, IsWritten};
 ghost use Rattle.wy_facts.specs.Membership.{AreTypesBelow};
 ghost use Rattle.wy_facts.specs.Seen.{Stays};
 ghost use Rattle.wy_prove_writable.specs.wy_check_laws.sound.Sortedness.{AreSortedSteps};
@@ -15,16 +15,15 @@ use wy_cert::Cert;
 use wy_prove_writable::is_certificate_writable;
 use wy_term::{Cond, NoMemory, Terms};
 
-// The certificate, where it can be written.
-fn if_writable(cert: Cert) -> Result<Option<Cert>, NoMemory>
+// The certificate, which can be written. Want of memory is also the answer where a file has no room for a name or a number of it.
+fn written(cert: Cert) -> Result<Cert, NoMemory>
     requires { NamesItsTerms cert }
-    ensures { IfOk result (IsItIfWritable cert) }
+    ensures { IfOk result (IsWritten cert) }
 {
-    if is_certificate_writable(&cert)? {
-        Ok(Some(cert))
-    } else {
-        Ok(None)
+    if !is_certificate_writable(&cert)? {
+        return Err(NoMemory);
     }
+    Ok(cert)
 }
 
 // The same as below. It makes terms.
@@ -41,15 +40,15 @@ fn found(terms: &mut Terms, cond: &Cond, budget: u64) -> Result<Option<Cert>, No
     ensures stays { Stays terms.old terms.new }
 {
     match written_by(terms, cond, budget)? {
-        Some(cert) => if_writable(cert),
+        Some(cert) => Ok(Some(written(cert)?)),
         None => Ok(None),
     }
 }
 
 /// A certificate of a condition, by the search's own tree up to a budget of leaves: there is one exactly where the search finds the
-/// condition at this budget, unless the one that was made can't be written so that it is read again as it is. It is valid, and its
-/// terms are of the sorts that their places want. The terms are as before afterwards, at want of memory too. It takes the search's time
-/// once more, and that of writing the steps.
+/// condition at this budget. It is valid, its terms are of the sorts that their places want, and it can be written so that it is read
+/// again as it is. The terms are as before afterwards, at want of memory too. It takes the search's time once more, and that of writing
+/// the steps. Want of memory is also the answer where a file has no room for a name or a number of the certificate.
 pub fn certified(terms: &mut Terms, cond: &Cond, budget: u64) -> Result<Option<Cert>, NoMemory>
     requires hyps { All (λ h. h < length terms.old) cond.now.hyps.items }
     requires goal { cond.now.goal < length terms.old }

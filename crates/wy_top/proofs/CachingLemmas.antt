@@ -10,7 +10,7 @@ use Rattle.wy_port.specs.declared.files.LoadFault.TheVariants.{Absent, TooLong, 
 use Rattle.wy_top_probe.proofs.wy_top_answers_proofs.StepLemmas.{memory_gives, stated_value}
 use Rattle.wy_top_probe.specs.wy_top_answers.Answers.{no_memory, refused}
 use Rattle.wy_top_probe.specs.wy_top_answers.Loading.{IsNotLoaded, LoadFails, certificate_limit, loaded}
-use Rattle.wy_top_probe.specs.wy_top_answers.Steps.{Came, EndsFree, EndsOutside, Gives, IsFree, IsOutside, IsTold, Setting, came, failed, from_outside, memory, stated, uncertified}
+use Rattle.wy_top_probe.specs.wy_top_answers.Steps.{Came, EndsOutside, Gives, IsOutside, IsTold, Setting, came, failed, memory, stated}
 use Rattle.wy_top_probe.specs.wy_top_answers.Texts.{load_status, load_text}
 use Rattle.wy_top_probe.specs.wy_top_answers.declared.answer.Answer.{Answer}
 use Rattle.wy_top.specs.Caches.{IsCache, caches, from_bytes, too_long, without}
@@ -51,34 +51,29 @@ status_of a = a.status
 why : (s : Setting) (name : List ℕ) (fault : LoadFault) → LoadFails s name certificate_limit fault → IsNotLoaded s name certificate_limit (refused (load_status fault) (load_text name fault))
 why s name fault cause = record { fault = fault; cause = cause; answer = refl }
 
--- a free answer has none of these statuses
+-- an answer from outside has another status
 outside_apart : (s : Setting) (a : Answer) → IsOutside s a → a.status ≡ 3 → ⊥
 unfolding status_of
 outside_apart s a (memory e) is = let nine : a.status ≡ 9 = ap status_of e in omega (arith, is, nine)
 outside_apart s a (failed name e rose) is = let four : a.status ≡ 4 = ap status_of e in omega (arith, is, four)
 
-free_apart : (s : Setting) (a : Answer) → IsFree s a → a.status ≡ 3 → ⊥
-unfolding status_of
-free_apart s a (from_outside o) is = outside_apart s a o is
-free_apart s a (uncertified e) is = let thirteen : a.status ≡ 13 = ap status_of e in omega (arith, is, thirteen)
-
 module _ (s : Setting) (name : List ℕ) where
   -- ---- there is a file
 
-  cached_only : (bytes : List ℕ) (es : Entries) → Gives s (loaded s name certificate_limit) (Ok bytes) → IsReadAs bytes es → IsTold s name → (other : Came Entries) → IsCache s name other → (other ≡ Ok es) ⊎ EndsFree s (let r : Came Entries = Ok es in r)
+  cached_only : (bytes : List ℕ) (es : Entries) → Gives s (loaded s name certificate_limit) (Ok bytes) → IsReadAs bytes es → IsTold s name → (other : Came Entries) → IsCache s name other → (other ≡ Ok es) ⊎ EndsOutside s (let r : Came Entries = Ok es in r)
   cached_only bytes es g read told other (from_bytes b ds loads others is) = by (g.only (Ok b) (told, loads))
     where
-      by : (value b ≡ value bytes) ⊎ EndsFree s (value bytes) → (other ≡ Ok es) ⊎ EndsFree s (let r : Came Entries = Ok es in r)
+      by : (value b ≡ value bytes) ⊎ EndsOutside s (value bytes) → (other ≡ Ok es) ⊎ EndsOutside s (let r : Came Entries = Ok es in r)
       by (inl e) = inl (is ∙ ap (λ (x : Entries). Ok x) (read_once bytes ds es (subst (λ (c : List ℕ). IsReadAs c ds) (same_bytes b bytes e) others) read))
       by (inr never) = absurd never
   cached_only bytes es g read told other (without fails is) = by (g.only (stopped (refused (load_status Absent) (load_text name Absent))) (told, why s name Absent fails))
     where
-      by : (stopped (refused (load_status Absent) (load_text name Absent)) ≡ value bytes) ⊎ EndsFree s (value bytes) → (other ≡ Ok es) ⊎ EndsFree s (let r : Came Entries = Ok es in r)
+      by : (stopped (refused (load_status Absent) (load_text name Absent)) ≡ value bytes) ⊎ EndsOutside s (value bytes) → (other ≡ Ok es) ⊎ EndsOutside s (let r : Came Entries = Ok es in r)
       by (inl e) = absurd (never_both bytes _ (sym e))
       by (inr never) = absurd never
   cached_only bytes es g read told other (too_long fails is) = by (g.only (stopped (refused (load_status TooLong) (load_text name TooLong))) (told, why s name TooLong fails))
     where
-      by : (stopped (refused (load_status TooLong) (load_text name TooLong)) ≡ value bytes) ⊎ EndsFree s (value bytes) → (other ≡ Ok es) ⊎ EndsFree s (let r : Came Entries = Ok es in r)
+      by : (stopped (refused (load_status TooLong) (load_text name TooLong)) ≡ value bytes) ⊎ EndsOutside s (value bytes) → (other ≡ Ok es) ⊎ EndsOutside s (let r : Came Entries = Ok es in r)
       by (inl e) = absurd (never_both bytes _ (sym e))
       by (inr never) = absurd never
 
@@ -110,19 +105,19 @@ module _ (s : Setting) (name : List ℕ) where
     abbrev nothing : Came Entries
     nothing = Ok []
 
-    none_only : a.status ≡ 3 → IsTold s name → (other : Came Entries) → IsCache s name other → (other ≡ nothing) ⊎ EndsFree s nothing
+    none_only : a.status ≡ 3 → IsTold s name → (other : Came Entries) → IsCache s name other → (other ≡ nothing) ⊎ EndsOutside s nothing
     unfolding status_of
     none_only three told other (from_bytes b ds loads others is) = by (g.only (Ok b) (told, loads))
       where
-        by : (value b ≡ stopped a) ⊎ EndsFree s (stopped a) → (other ≡ nothing) ⊎ EndsFree s nothing
+        by : (value b ≡ stopped a) ⊎ EndsOutside s (stopped a) → (other ≡ nothing) ⊎ EndsOutside s nothing
         by (inl e) = absurd (never_both b a e)
-        by (inr free) = absurd (free_apart s a free three)
+        by (inr free) = absurd (outside_apart s a free three)
     none_only three told other (without fails is) = inl is
     none_only three told other (too_long fails is) = by (g.only (stopped (refused (load_status TooLong) (load_text name TooLong))) (told, why s name TooLong fails))
       where
-        by : (stopped (refused (load_status TooLong) (load_text name TooLong)) ≡ stopped a) ⊎ EndsFree s (stopped a) → (other ≡ nothing) ⊎ EndsFree s nothing
+        by : (stopped (refused (load_status TooLong) (load_text name TooLong)) ≡ stopped a) ⊎ EndsOutside s (stopped a) → (other ≡ nothing) ⊎ EndsOutside s nothing
         by (inl e) = let ten : 10 ≡ a.status = ap status_of (same_answer _ a e) in absurd (omega (arith, three, ten))
-        by (inr free) = absurd (free_apart s a free three)
+        by (inr free) = absurd (outside_apart s a free three)
 
     pub none_gives : a.status ≡ 3 → Gives s (caches s name) (Ok [])
     none_gives three = record { comes = inl (none_comes g.comes three); only = λ other h. none_only three h.0 other h.1 }
@@ -143,21 +138,21 @@ module _ (s : Setting) (name : List ℕ) where
     ends_comes (inl n) apart = inl (refused_as n.fault n.cause n.answer apart)
     ends_comes (inr o) apart = inr o
 
-    ends_only : (a.status ≡ 3 → ⊥) → IsTold s name → (other : Came Entries) → IsCache s name other → (other ≡ ended) ⊎ EndsFree s ended
+    ends_only : (a.status ≡ 3 → ⊥) → IsTold s name → (other : Came Entries) → IsCache s name other → (other ≡ ended) ⊎ EndsOutside s ended
     unfolding status_of
     ends_only apart told other (from_bytes b ds loads others is) = by (g.only (Ok b) (told, loads))
       where
-        by : (value b ≡ stopped a) ⊎ EndsFree s (stopped a) → (other ≡ ended) ⊎ EndsFree s ended
+        by : (value b ≡ stopped a) ⊎ EndsOutside s (stopped a) → (other ≡ ended) ⊎ EndsOutside s ended
         by (inl e) = absurd (never_both b a e)
         by (inr free) = inr free
     ends_only apart told other (without fails is) = by (g.only (stopped (refused (load_status Absent) (load_text name Absent))) (told, why s name Absent fails))
       where
-        by : (stopped (refused (load_status Absent) (load_text name Absent)) ≡ stopped a) ⊎ EndsFree s (stopped a) → (other ≡ ended) ⊎ EndsFree s ended
+        by : (stopped (refused (load_status Absent) (load_text name Absent)) ≡ stopped a) ⊎ EndsOutside s (stopped a) → (other ≡ ended) ⊎ EndsOutside s ended
         by (inl e) = absurd (apart (sym (ap status_of (same_answer _ a e))))
         by (inr free) = inr free
     ends_only apart told other (too_long fails is) = by (g.only (stopped (refused (load_status TooLong) (load_text name TooLong))) (told, why s name TooLong fails))
       where
-        by : (stopped (refused (load_status TooLong) (load_text name TooLong)) ≡ stopped a) ⊎ EndsFree s (stopped a) → (other ≡ ended) ⊎ EndsFree s ended
+        by : (stopped (refused (load_status TooLong) (load_text name TooLong)) ≡ stopped a) ⊎ EndsOutside s (stopped a) → (other ≡ ended) ⊎ EndsOutside s ended
         by (inl e) = inl (is ∙ ap (λ (b : Answer). Err b) (same_answer _ a e))
         by (inr free) = inr free
 

@@ -1,9 +1,8 @@
 -- The certificates for the conditions that were found, one after the other.
-use Rattle.std.proofs.Common.{◌≡◌, ◌∙◌, ◌<◌, ◌+◌, ℕ, zero, suc, List, [], ◌∷◌, ◌++◌, All, length, map, take, get_or, true, Option, Some, None, refl, inl, inr, sym, ap, subst, arith}
-use Rattle.std.proofs.lemmas.List.{length-map, map-append}
+use Rattle.std.proofs.Common.{◌≡◌, ◌∙◌, ◌<◌, ◌+◌, ℕ, zero, suc, List, [], ◌∷◌, ◌++◌, All, length, map, take, get_or, true, false, Option, Some, refl, sym, ap, subst, arith}
+use Rattle.std.proofs.lemmas.List.{append-nil, length-map, map-append}
 use Rattle.std.specs.Prelude.{IfOk, IfSome, Result, Ok, Err}
 use Rattle.std.proofs.lemmas.List.Elements.{All-append, All-cons, All-nil}
-use Rattle.wy_top.proofs.ProofLemmas.{some_certs}
 use Rattle.wy_prove.specs.wy_prove_writable.Writable.{AreWritable}
 use Rattle.wy_cert.specs.Steps.{Certificates, NamesItsTerms, NameTheirTerms, Written, certificates_of, steps_of}
 use Rattle.wy_cert.specs.declared.step.Cert.{Cert}
@@ -12,13 +11,11 @@ use Rattle.wy_top_probe.specs.wy_top_answers.wy_check_laws.sound.Sortedness.{Are
 use Rattle.wy_term.specs.Condition.{Condition}
 use Rattle.wy_term.specs.declared.cond.Cond.{Cond}
 use Rattle.wy_top_probe.specs.wy_top_answers.wy_check_spec.valid.Validity.{IsValid}
-use Rattle.wy_prove.specs.Answers.{AnswersWhatIsFound, HasUnwritable, IsFormedThroughout}
+use Rattle.wy_prove.specs.Answers.{IsFormedThroughout, IsFoundWithin}
 use Rattle.wy_prove.specs.wy_search_spec.Tree as search
-use Rattle.wy_top.specs.Found.{AreFor, Begin, IsMore, IsOneMore, IsOwn, LacksOne}
-use Rattle.wy_batch.specs.Known.{AreKnown, End, IsKnown, Known, end_of, found, is_found, spent, stays_open, supplied}
-use Rattle.wy_top.specs.Proofs.{LeavesOut}
+use Rattle.wy_top.specs.Found.{AreFor, Begin, IsMore, IsOneMore, IsOwn}
+use Rattle.wy_batch.specs.Known.{AreKnown, End, IsSearched, Known, end_of, found, is_found, spent, stays_open, supplied}
 use Rattle.wy_batch.specs.Seen.{known, seen_end}
-use Rattle.wy_batch.specs.declared.verdict.End.{End as CodeEnd}
 use Rattle.wy_batch.specs.declared.verdict.Verdict.{Verdict}
 
 -- ---- one condition
@@ -88,14 +85,6 @@ mapped_at f [] i x lt is = absurd (omega (arith, lt))
 mapped_at f (y ∷ xs) zero x lt is = ap f is
 mapped_at f (y ∷ xs) (suc i) x lt is = mapped_at f xs i x (omega (arith, lt)) is
 
--- ---- what was answered
-
-pub is_more : (n : ℕ) (c : Condition) (e : End) (certs : Certificates) (o : Option Certs) (more : Certs) → o ≡ some_certs more → IfSome o (λ (k : Certs). IsMore n c e certs (certificates_of k)) → IsMore n c e certs (certificates_of more)
-is_more n c e certs o more is h = subst (λ (p : Option Certs). IfSome p (λ (k : Certs). IsMore n c e certs (certificates_of k))) is h
-
-pub are_named : (o : Option Certs) (more : Certs) → o ≡ some_certs more → IfSome o NameTheirTerms → NameTheirTerms more
-are_named o more is h = subst (λ (p : Option Certs). IfSome p NameTheirTerms) is h
-
 -- ---- turns
 
 pub found_turn : (of : Cond → Condition) (conds : List Cond) (vs : List Verdict) (i n : ℕ) (c : Cond) (d : Condition) (v : Verdict) (certs more : Certificates)
@@ -116,36 +105,39 @@ found_turn of conds vs i n c d v certs more each lt at there number same so h =
 pub formed_at : (of : Cond → Condition) (conds : List Cond) (i : ℕ) (c : Cond) → All (λ x. IsFormedThroughout (of x)) conds → i < length conds → c ≡ get_or conds i c → IsFormedThroughout (of c)
 formed_at of conds i c h lt at = subst (λ (x : Cond). IsFormedThroughout (of x)) (sym at) (h i c lt)
 
--- one that was found and got none was found
-pub found_lacks : {E : Type 0} (e : CodeEnd) (Q : Type 0) (r : Result (Option Certs) E) → is_found (seen_end e) ≡ true → IfOk r (λ (o : Option Certs). o ≡ None → Q) → IfOk r (λ (o : Option Certs). o ≡ None → (is_found (seen_end e) ≡ true) × Q)
-found_lacks e Q (Ok o) is h = λ none. (is, h none)
-found_lacks e Q (Err x) is h = tt
+-- ---- what is known
 
--- one that was found and got none is among them
-pub lacks_at : (budget : ℕ) (of : Cond → Condition) (conds : List Cond) (vs : List Verdict) (i : ℕ) (c : Cond) (d : Condition) (v : Verdict) → i < length conds → i < length vs → c ≡ get_or conds i c → v ≡ get_or vs i v → d ≡ of c
-    → is_found (seen_end v.end) ≡ true → AnswersWhatIsFound d budget None → LacksOne budget (map of conds) (map known vs)
-lacks_at budget of [] vs i c d v lc lv at there same is lacks = absurd (omega (arith, lc))
-lacks_at budget of (e ∷ conds) [] i c d v lc lv at there same is lacks = absurd (omega (arith, lv))
-lacks_at budget of (e ∷ conds) (w ∷ vs) zero c d v lc lv at there same is lacks =
-    inl (subst (λ (x : Verdict). is_found (seen_end x.end) ≡ true) there is, subst (λ (x : Condition). AnswersWhatIsFound x budget None) (same ∙ ap of at) lacks)
-lacks_at budget of (e ∷ conds) (w ∷ vs) (suc i) c d v lc lv at there same is lacks = inr (lacks_at budget of conds vs i c d v (omega (arith, lc)) (omega (arith, lv)) at there same is lacks)
-
--- ---- what lacks a certificate
+-- the search of the condition with a place in a list ends so
+pub searched_at : (budget n : ℕ) (of : Cond → Condition) (conds : List Cond) (vs : List Verdict) (i : ℕ) (c : Cond) (v : Verdict) → i < length conds → i < length vs → c ≡ get_or conds i c → v ≡ get_or vs i v
+    → AreKnown [] budget n (map of conds) (map known vs) → IsSearched (of c) budget (seen_end v.end)
+searched_at budget n of [] vs i c v lc lv at there h = absurd (omega (arith, lc))
+searched_at budget n of (e ∷ conds) [] i c v lc lv at there h = absurd (omega (arith, lv))
+searched_at budget n of (e ∷ conds) (w ∷ vs) zero c v lc lv at there h =
+    subst (λ (x : Cond). IsSearched (of x) budget (seen_end v.end)) (sym at) (subst (λ (x : Verdict). IsSearched (of e) budget (seen_end x.end)) (sym there) h.0.end)
+searched_at budget n of (e ∷ conds) (w ∷ vs) (suc i) c v lc lv at there h = searched_at budget (n + 1) of conds vs i c v (omega (arith, lc)) (omega (arith, lv)) at there h.1
 
 -- the search found it, with so many leaves
-found_with : (c : Condition) (budget : ℕ) (verdict : search.Verdict) → search.IsVerdict c budget verdict → is_found (end_of verdict) ≡ true → (leaves : ℕ) × search.IsVerdict c budget (search.found leaves)
+pub found_with : (c : Condition) (budget : ℕ) (verdict : search.Verdict) → search.IsVerdict c budget verdict → is_found (end_of verdict) ≡ true → IsFoundWithin c budget
 found_with c budget (search.found leaves) is e = (leaves, is)
 found_with c budget (search.open_leaf leaf why literals) is e = absurd cc
 found_with c budget search.spent is e = absurd cc
 
-left_one : (c : Condition) (budget n : ℕ) (k : Known) → IsKnown [] budget n c k → is_found k.end ≡ true → AnswersWhatIsFound c budget None → HasUnwritable c
-left_one c budget n k known is lacks =
-    let e = known.end in
-    lacks (found_with c budget e.verdict e.searched (subst (λ (x : End). is_found x ≡ true) e.is is))
+-- ---- one more
 
--- of the conditions of a program one is left out, where one that was found got none
-pub left_out : (budget n : ℕ) (cs : List Condition) (ks : List Known) → AreKnown [] budget n cs ks → LacksOne budget cs ks → LeavesOut cs ks
-left_out budget n [] ks known lacks = absurd lacks
-left_out budget n (c ∷ cs) [] known lacks = absurd lacks
-left_out budget n (c ∷ cs) (k ∷ ks) known (inl h) = inl (h.0, left_one c budget n k known.0 h.0 h.1)
-left_out budget n (c ∷ cs) (k ∷ ks) known (inr h) = inr (left_out budget (n + 1) cs ks known.1 h)
+-- none for a condition that wasn't found
+pub none_more : (n : ℕ) (c : Condition) (e : End) (certs : Certificates) → is_found e ≡ false → IsMore n c e certs certs
+none_more n c supplied certs h = record { own = []; are = refl; more_are = sym (append-nil certs) }
+none_more n c (found leaves) certs h = absurd cc
+none_more n c (stays_open leaf why literals) certs h = record { own = []; are = refl; more_are = sym (append-nil certs) }
+none_more n c spent certs h = record { own = []; are = refl; more_are = sym (append-nil certs) }
+
+-- one for a condition that was found
+pub found_more : {E : Type 0} (n : ℕ) (c : Condition) (budget : ℕ) (e : End) (certs : Certificates) (r : Result Certs E) → is_found e ≡ true → IsSearched c budget e
+    → (IsFoundWithin c budget → IfOk r (λ more. IsOneMore n c certs (certificates_of more))) → IfOk r (λ more. IsMore n c e certs (certificates_of more))
+found_more n c budget supplied certs r is h one = absurd cc
+found_more n c budget (stays_open leaf why literals) certs r is h one = absurd cc
+found_more n c budget spent certs r is h one = absurd cc
+found_more n c budget (found leaves) certs (Err x) is h one = tt
+found_more n c budget (found leaves) certs (Ok more) is h one =
+    let m = one (found_with c budget h.verdict h.searched (subst (λ (x : End). is_found x ≡ true) h.is is)) in
+    record { own = (n, m.0) ∷ []; are = (m.0, m.1, refl); more_are = m.2 }

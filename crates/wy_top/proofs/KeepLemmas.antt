@@ -23,28 +23,19 @@ use Rattle.wy_top.specs.Saved.{AreSpelled, RenewedKeepsAll}
 
 -- ---- where each condition got one
 
-row_few : (es : Entries) (n m : ℕ) (c : Condition) (k : Known) (others certs : Certificates) → length others ≤ m → IsSavedRow es n c k.end others certs → length certs ≤ suc m
-row_few es n m c k others certs few (entry steps h w is) = let same = ap (λ (ds : Certificates). length ds) is in omega (arith, same, few)
-row_few es n m c k others certs few (no_entry un is) = let same = ap (λ (ds : Certificates). length ds) is in omega (arith, same, few)
-
-saved_few : (es : Entries) (n : ℕ) (cs : List Condition) (ks : List Known) (certs : Certificates) → AreSaved es n cs ks certs → length certs ≤ length cs
-saved_few es n [] [] certs h = let same = ap (λ (ds : Certificates). length ds) h in omega (arith, same)
-saved_few es n [] (k ∷ ks) certs h = absurd h
-saved_few es n (c ∷ cs) [] certs h = absurd h
-saved_few es n (c ∷ cs) (k ∷ ks) certs h = row_few es n (length cs) c k h.0 certs (saved_few es (n + 1) cs ks h.0 h.2) h.1
-
-all_entered : (es : Entries) (n : ℕ) (cs : List Condition) (ks : List Known) (certs : Certificates) → AreSaved es n cs ks certs → length certs ≡ length cs → AreSpelled cs → AreEntered n cs certs
-all_entered es n [] [] certs h many spelled = h
-all_entered es n [] (k ∷ ks) certs h many spelled = absurd h
-all_entered es n (c ∷ cs) [] certs h many spelled = absurd h
-all_entered es n (c ∷ cs) (k ∷ ks) certs h many spelled = by (λ others rest long. all_entered es (n + 1) cs ks others rest long spelled.1) h.0 h.1 h.2
+all_entered : (es : Entries) (n : ℕ) (cs : List Condition) (ks : List Known) (certs : Certificates) → AreSaved es n cs ks certs → are_closed ks ≡ true → AreSpelled cs → AreEntered n cs certs
+all_entered es n [] [] certs h closed spelled = h
+all_entered es n [] (k ∷ ks) certs h closed spelled = absurd h
+all_entered es n (c ∷ cs) [] certs h closed spelled = absurd h
+all_entered es n (c ∷ cs) (k ∷ ks) certs h closed spelled = by (is_closed k.end) refl closed (λ others rest more. all_entered es (n + 1) cs ks others rest more spelled.1) h.0 h.1 h.2
   where
-    by : ((others : Certificates) → AreSaved es (n + 1) cs ks others → length others ≡ length cs → AreEntered (n + 1) cs others) → (others : Certificates) → IsSavedRow es n c k.end others certs → AreSaved es (n + 1) cs ks others → AreEntered n (c ∷ cs) certs
-    by later others (entry steps g w is) rest =
-        let long : suc (length others) ≡ suc (length cs) = sym (ap (λ (ds : Certificates). length ds) is) ∙ many in
-        subst (AreEntered n (c ∷ cs)) (sym is)
-        (refl, record { formulas = spelled.0; valid = renewed_valid es c k.end steps g; trees = valid_is_one_tree c steps (renewed_valid es c k.end steps g); writable = w }, later others rest (omega (arith, long)))
-    by later others (no_entry un is) rest = let few = saved_few es (n + 1) cs ks others rest in let long = ap (λ (ds : Certificates). length ds) is in absurd (omega (arith, few, long, many))
+    by : (b : Bool) → is_closed k.end ≡ b → (b && are_closed ks) ≡ true → ((others : Certificates) → AreSaved es (n + 1) cs ks others → are_closed ks ≡ true → AreEntered (n + 1) cs others)
+        → (others : Certificates) → IsSavedRow es n c k.end others certs → AreSaved es (n + 1) cs ks others → AreEntered n (c ∷ cs) certs
+    by false is all later others row rest = absurd cc
+    by true is all later others (entry steps g w same) rest =
+        subst (AreEntered n (c ∷ cs)) (sym same)
+        (refl, record { formulas = spelled.0; valid = renewed_valid es c k.end steps g; trees = valid_is_one_tree c steps (renewed_valid es c k.end steps g); writable = w }, later others rest all)
+    by true is all later others (no_entry apart same) rest = absurd cc
 
 -- ---- where all are kept
 
@@ -100,6 +91,6 @@ pub renewed_keeps_all : RenewedKeepsAll
 renewed_keeps_all p budget es text f full spelled tell ds read other ks seen =
     let cs = conditions_of p in
     let told = all_told (setting_of (numbered_core p.core) p.flow) tell (what_is_owed p.core p.flow) spelled in
-    let entered = all_entered es 1 cs f.verdicts f.certificates f.saved full.each spelled in
+    let entered = all_entered es 1 cs f.verdicts f.certificates f.saved full.closed spelled in
     let w = all_whole ds other cs ks (keeps_what_is_written cs f.certificates text ds entered told f.is full.fits read) seen in
     (w.many, w.closed)

@@ -1,27 +1,26 @@
 -- The verdicts of `prove` as a step.
 use Rattle.std.proofs.Common.{◌≡◌, ◌∙◌, ◌<◌, ◌^◌, ℕ, List, [], length, Ok, Err, inl, inr, sym, ap, subst}
-use Rattle.wy_batch.specs.Known.{Known}
+use Rattle.wy_batch.specs.Known.{AreKnown, Known}
 use Rattle.wy_batch.proofs.OneLemmas.{one_list}
-use Rattle.std.specs.Prelude.{IfErr, IfOk, IfSome, Option, Result, Some, map}
-use Rattle.wy_top_probe.specs.wy_top_answers.Answers.{IsRefusal, no_memory}
-use Rattle.wy_top_probe.specs.wy_top_answers.Steps.{Setting, Came, Gives, came, due, uncertified}
-use Rattle.wy_top_probe.specs.wy_top_answers.Texts.{not_certified}
+use Rattle.std.specs.Prelude.{IfErr, IfOk, Result, map}
+use Rattle.wy_top_probe.specs.wy_top_answers.Answers.{no_memory}
+use Rattle.wy_top_probe.specs.wy_top_answers.Steps.{Setting, Came, Gives, came, due}
 use Rattle.wy_top_probe.specs.wy_top_answers.declared.answer.Answer.{Answer}
-use Rattle.wy_top_probe.proofs.wy_top_answers_proofs.StepLemmas.{value_gives, free_gives, memory_gives}
+use Rattle.wy_top_probe.proofs.wy_top_answers_proofs.StepLemmas.{value_gives, memory_gives}
 use Rattle.wy_top.specs.Acceptance.{AreVerdicts, are_closed}
 use Rattle.wy_top.specs.Programs.{Program, conditions_of}
 use Rattle.wy_cert.specs.File.{ReadsFile}
 use Rattle.wy_cert.specs.Steps.{Certificates, certificates_of}
 use Rattle.wy_cert.specs.declared.step.Certs.{Certs}
 use Rattle.wy_cert.specs.writing.Text.{file_text}
-use Rattle.wy_top.specs.Found.{AreFor, LacksOne}
+use Rattle.wy_top.specs.Found.{AreFor}
 use Rattle.wy_term.specs.Condition.{Condition, condition_of}
 use Rattle.wy_term.specs.declared.cond.Cond.{Cond}
 use Rattle.wy_top.specs.Kept.{answer_in}
 use Rattle.wy_batch.specs.Seen.{known}
 use Rattle.wy_top.specs.declared.judging.Judged.{Judged}
 use Rattle.wy_batch.specs.declared.verdict.Verdict.{Verdict}
-use Rattle.wy_top.specs.Proofs.{IsProofFile, LeavesOut, judges, proof_answer}
+use Rattle.wy_top.specs.Proofs.{IsProofFile, judges, proof_answer}
 use Rattle.wy_top.specs.declared.proving.Proof.{Proof}
 use Rattle.wy_top.proofs.WritableLemmas.{found_is_read}
 
@@ -59,24 +58,13 @@ saved_file p budget a ks certs (Ok f) so are few h =
     }
 saved_file p budget a ks certs (Err b) so are few h = tt
 
-abbrev pub some_certs : Certs → Option Certs
-some_certs certs = Some certs
-
 -- they are for the conditions of the program
-pub found_for : (p : Program) (j : Judged) (list : List Cond) (vs : List Verdict) (o : Option Certs) (certs : Certs) → list ≡ j.conds.list.items → vs ≡ j.verdicts.items → map (condition_of j.conds.terms) j.conds.list.items ≡ conditions_of p → o ≡ some_certs certs
-    → IfSome o (λ (k : Certs). AreFor 1 (map (condition_of j.conds.terms) list) (map known vs) (certificates_of k)) → AreFor 1 (conditions_of p) (map known j.verdicts.items) (certificates_of certs)
-found_for p j list vs o certs conds verdicts conditions is h =
-    subst (λ (cs : List Condition). AreFor 1 cs (map known j.verdicts.items) (certificates_of certs)) (ap (map (condition_of j.conds.terms)) conds ∙ conditions)
-    (subst (λ (ws : List Verdict). AreFor 1 (map (condition_of j.conds.terms) list) (map known ws) (certificates_of certs)) verdicts
-    (subst (λ (q : Option Certs). IfSome q (λ (k : Certs). AreFor 1 (map (condition_of j.conds.terms) list) (map known vs) (certificates_of k))) is h))
-
--- one of the program's conditions lacks a certificate
-pub lacks_for : (p : Program) (budget : ℕ) (j : Judged) (list : List Cond) (vs : List Verdict) → list ≡ j.conds.list.items → vs ≡ j.verdicts.items → map (condition_of j.conds.terms) j.conds.list.items ≡ conditions_of p
-    → LacksOne budget (map (condition_of j.conds.terms) list) (map known vs) → LacksOne budget (conditions_of p) (map known j.verdicts.items)
-lacks_for p budget j list vs conds verdicts conditions h =
-    subst (λ (cs : List Condition). LacksOne budget cs (map known j.verdicts.items)) (ap (map (condition_of j.conds.terms)) conds ∙ conditions)
-    (subst (λ (ws : List Verdict). LacksOne budget (map (condition_of j.conds.terms) list) (map known ws)) verdicts h)
-
-pub unmade_gives : (s : Setting) (name bytes : List ℕ) (p : Program) (budget : ℕ) (a : Answer) (ks : List Known) → AreVerdicts [] budget p ks → LeavesOut (conditions_of p) ks → IsRefusal 13 not_certified a → Gives s (judges name bytes p budget) (Err a)
-unmade_gives s name bytes p budget a ks so some (inl e) = free_gives s (judges name bytes p budget) a (record { verdicts = ks; known = so; left = some; answer = e }) (uncertified e)
-unmade_gives s name bytes p budget a ks so some (inr e) = memory_gives s (judges name bytes p budget) a e
+pub found_for : (p : Program) (budget : ℕ) (j : Judged) (list : List Cond) (vs : List Verdict) (certs : Certs) → list ≡ j.conds.list.items → vs ≡ j.verdicts.items → map (condition_of j.conds.terms) j.conds.list.items ≡ conditions_of p
+    → AreVerdicts [] budget p (map known j.verdicts.items)
+    → (AreKnown [] budget 1 (map (condition_of j.conds.terms) list) (map known vs) → AreFor 1 (map (condition_of j.conds.terms) list) (map known vs) (certificates_of certs)) → AreFor 1 (conditions_of p) (map known j.verdicts.items) (certificates_of certs)
+found_for p budget j list vs certs conds verdicts conditions known_so h =
+    let whole : map (condition_of j.conds.terms) list ≡ conditions_of p = ap (map (condition_of j.conds.terms)) conds ∙ conditions in
+    let so = subst (λ (ws : List Verdict). AreKnown [] budget 1 (map (condition_of j.conds.terms) list) (map known ws)) (sym verdicts)
+    (subst (λ (cs : List Condition). AreKnown [] budget 1 cs (map known j.verdicts.items)) (sym whole) known_so) in
+    subst (λ (cs : List Condition). AreFor 1 cs (map known j.verdicts.items) (certificates_of certs)) whole
+    (subst (λ (ws : List Verdict). AreFor 1 (map (condition_of j.conds.terms) list) (map known ws) (certificates_of certs)) verdicts (h so))

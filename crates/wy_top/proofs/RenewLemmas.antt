@@ -108,16 +108,13 @@ found_with c budget search.spent is e = absurd cc
 pub found_made : (es : Entries) (c : Condition) (budget : ℕ) (e : End) (o : Option Cert) → is_found e ≡ true → IsSearched c budget e → AnswersWhatIsFound c budget o
     → IfSome o (λ cert. IsValid c (steps_of cert)) → IfSome o (λ cert. AreWritable (steps_of cert)) → IsMade es c e o
 found_made es c budget (found leaves) (Some cert) is h exactly valid writable = (valid, writable)
-found_made es c budget (found leaves) None is h exactly valid writable = exactly (found_with c budget h.verdict h.searched (subst (λ (x : End). is_found x ≡ true) h.is is))
+found_made es c budget (found leaves) None is h exactly valid writable = absurd (exactly (found_with c budget h.verdict h.searched (subst (λ (x : End). is_found x ≡ true) h.is is)))
 found_made es c budget supplied o is h exactly valid writable = absurd cc
 found_made es c budget (stays_open leaf why literals) o is h exactly valid writable = absurd cc
 found_made es c budget spent o is h exactly valid writable = absurd cc
 
 pub other_made : (es : Entries) (c : Condition) (e : End) → is_closed e ≡ false → IsMade es c e None
-other_made es c supplied apart = absurd cc
-other_made es c (found leaves) apart = absurd cc
-other_made es c (stays_open leaf why literals) apart = tt
-other_made es c spent apart = tt
+other_made es c e apart = apart
 
 pub kept_made : (es : Entries) (c : Condition) (e : End) (cert : Cert) → e ≡ supplied → IsKept es c (steps_of cert) → AreWritable (steps_of cert) → IsMade es c e (Some cert)
 kept_made es c e cert end h writable = subst (λ (x : End). IsMade es c x (some_cert cert)) (sym end) (h, writable)

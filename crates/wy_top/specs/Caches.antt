@@ -1,13 +1,12 @@
 -- What does a cache come to: its entries, what is known of conditions by them, and what is saved anew?
 use Rattle.std.specs.Prelude.{◌≡◌, ℕ, ◌+◌, List, [], ◌∷◌, Bool, true, false, Option, Some, None, Ok, Err}
-use Rattle.wy_batch.specs.Known.{End, IsSearched, Known, found, spent, stays_open, supplied}
+use Rattle.wy_batch.specs.Known.{End, IsSearched, Known, found, is_closed, spent, stays_open, supplied}
 use Rattle.wy_cache.specs.Kept.{IsKept}
 use Rattle.wy_cache_text.specs.Files.{Entries, IsReadAs}
 use Rattle.wy_cert.specs.Steps.{Certificates, Written, steps_of}
 use Rattle.wy_cert.specs.Only.{HasNone}
 use Rattle.wy_cert.specs.declared.step.Cert.{Cert}
 use Rattle.wy_port.specs.declared.files.LoadFault.TheVariants.{Absent, TooLong}
-use Rattle.wy_prove.specs.Answers.{HasUnwritable}
 use Rattle.wy_prove_writable.specs.Writable.{AreWritable}
 use Rattle.wy_term.specs.Condition.{Condition}
 use Rattle.wy_top_probe.specs.wy_top_answers.Answers.{refused}
@@ -57,22 +56,15 @@ IsRenewed es c (found leaves) steps = IsValid c steps
 IsRenewed es c (stays_open leaf why literals) steps = ⊥
 IsRenewed es c spent steps = ⊥
 
--- it gets no entry: it isn't closed; or it was found, and a certificate of it can't be written. There is no such cause where it is kept.
-abbrev pub IsLeftOut : Condition → End → Type 0
-IsLeftOut c supplied = ⊥
-IsLeftOut c (found leaves) = HasUnwritable c
-IsLeftOut c (stays_open leaf why literals) = Unit {0}
-IsLeftOut c spent = Unit {0}
-
--- what is made for a condition that ends so: such steps, which can be written; or none
+-- what is made for a condition that ends so: such steps, which can be written; or none, where it isn't closed
 abbrev pub IsMade : Entries → Condition → End → Option Cert → Type 0
 IsMade es c e (Some cert) = IsRenewed es c e (steps_of cert) × AreWritable (steps_of cert)
-IsMade es c e None = IsLeftOut c e
+IsMade es c e None = is_closed e ≡ false
 
--- the certificates are that for the condition with this number, if there is one, and these others
+-- the certificates are that for the condition with this number, if it is closed, and these others
 pub data IsSavedRow (es : Entries) (n : ℕ) (c : Condition) (e : End) (others certs : Certificates) : Type 0 where
   entry : (steps : List Written) → IsRenewed es c e steps → AreWritable steps → certs ≡ (n, steps) ∷ others → IsSavedRow es n c e others certs
-  no_entry : IsLeftOut c e → certs ≡ others → IsSavedRow es n c e others certs
+  no_entry : is_closed e ≡ false → certs ≡ others → IsSavedRow es n c e others certs
 
 -- the certificates are those that are saved of a list whose first condition has this number
 abbrev pub AreSaved : Entries → ℕ → List Condition → List Known → Certificates → Type 0

@@ -17,9 +17,9 @@ use Rattle.wy_top.specs.Texts.{text_steps}
 use Rattle.wy_top.specs.declared.launching.Launch.{Launch}
 use Rattle.wy_top.specs.declared.texts.Text.TheVariants as kind_of
 
--- a load failed, a sink or a save failed, memory ran out, or a condition was found and not certified
+-- a load failed, a sink or a save failed, or memory ran out
 abbrev pub IsElse : ℕ → Type 0
-IsElse status = (status ≡ 4) ⊎ ((status ≡ 5) ⊎ ((status ≡ 9) ⊎ (status ≡ 13)))
+IsElse status = (status ≡ 4) ⊎ ((status ≡ 5) ⊎ (status ≡ 9))
 
 -- an answer that is due is shown whole, or the status is one of these
 abbrev pub AnswersExactly : Setting → (Sense → Came Answer → Type 0) → ℕ → Sinks → Type 0

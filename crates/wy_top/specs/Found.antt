@@ -1,5 +1,5 @@
 -- Certificates for the conditions that were found.
-use Rattle.std.specs.Prelude.{◌≡◌, ◌⊎◌, ℕ, ◌≤◌, suc, List, [], ◌∷◌, ◌++◌, map, true, None}
+use Rattle.std.specs.Prelude.{◌≡◌, ℕ, ◌≤◌, suc, List, [], ◌∷◌, ◌++◌, map}
 use Rattle.wy_cert.specs.Steps.{Certificates, Written}
 use Rattle.wy_prove.specs.wy_prove_writable.Writable.{AreWritable}
 use Rattle.wy_batch.specs.wy_check.Verdicts.{verdicts_on}
@@ -8,8 +8,7 @@ use Rattle.wy_batch.specs.wy_check.declared.verdict.Verdict.TheVariants as accep
 use Rattle.wy_top_probe.specs.wy_top_answers.wy_check_laws.sound.Sortedness.{AreSortedSteps}
 use Rattle.wy_term.specs.Condition.{Condition}
 use Rattle.wy_top_probe.specs.wy_top_answers.wy_check_spec.valid.Validity.{IsValid}
-use Rattle.wy_prove.specs.Answers.{AnswersWhatIsFound}
-use Rattle.wy_batch.specs.Known.{End, Known, found, is_found, spent, stays_open, supplied}
+use Rattle.wy_batch.specs.Known.{End, Known, found, spent, stays_open, supplied}
 
 -- the steps are a valid certificate for the condition, their terms are of the sorts of their places, and they can be written
 pub record Shows (c : Condition) (steps : List Written) : Type 0 where
@@ -50,14 +49,6 @@ pub record IsMore (n : ℕ) (c : Condition) (e : End) (certs more : Certificates
   pub own : Certificates
   pub are : IsOwn n c e own
   pub more_are : more ≡ certs ++ own
-
--- ---- no certificate
-
--- of these conditions, of which this is known, one was found within the budget and got no certificate
-abbrev pub LacksOne : ℕ → List Condition → List Known → Type 0
-LacksOne budget [] ks = ⊥
-LacksOne budget (c ∷ cs) [] = ⊥
-LacksOne budget (c ∷ cs) (k ∷ ks) = ((is_found k.end ≡ true) × AnswersWhatIsFound c budget None) ⊎ LacksOne budget cs ks
 
 -- ---- what they are
 

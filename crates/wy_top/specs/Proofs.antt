@@ -1,20 +1,17 @@
 -- What does the command `prove` make of a source? The verdicts on its conditions, without certificates, and a file of those that it found.
-use Rattle.std.specs.Prelude.{◌≡◌, ◌⊎◌, ℕ, List, [], ◌∷◌, length, Bool, true, false, Ok, Err}
+use Rattle.std.specs.Prelude.{◌≡◌, ℕ, List, [], length, Bool, true, false, Ok, Err}
 use Rattle.wy_top_probe.specs.wy_top_answers.Answers.{refused, written}
 use Rattle.wy_top_probe.specs.wy_link_load.Alone.{IsAlone, loads_alone}
-use Rattle.wy_top_probe.specs.wy_top_answers.Steps.{Came, Sense, stated, due, Setting, and_then}
-use Rattle.wy_top_probe.specs.wy_top_answers.Texts.{not_certified}
+use Rattle.wy_top_probe.specs.wy_top_answers.Steps.{Came, Sense, Setting, and_then}
 use Rattle.wy_top_probe.specs.wy_top_answers.declared.answer.Answer.{Answer}
 use Rattle.wy_cert.specs.File.{ReadsFile}
 use Rattle.wy_cert.specs.Steps.{Certificates}
 use Rattle.wy_cert.specs.writing.Text.{file_text}
-use Rattle.wy_prove.specs.Answers.{HasUnwritable}
-use Rattle.wy_term.specs.Condition.{Condition}
 use Rattle.wy_top.specs.Owed.{Owes, told_by}
 use Rattle.wy_top.specs.Found.{AreFor}
 use Rattle.wy_top.specs.Refusals.{refusal_lines}
 use Rattle.wy_top_probe.specs.wy_top_answers.report.Lines.{accepted}
-use Rattle.wy_batch.specs.Known.{Known, is_found}
+use Rattle.wy_batch.specs.Known.{Known}
 use Rattle.wy_top.specs.Acceptance.{AreVerdicts, are_closed}
 use Rattle.wy_top.specs.Programs.{Program, conditions_of, count_of, owes}
 
@@ -29,27 +26,11 @@ pub record IsJudged (name bytes : List ℕ) (p : Program) (budget : ℕ) (a : An
   pub known : AreVerdicts [] budget p verdicts
   pub answer : a ≡ proof_answer name bytes p budget verdicts (are_closed verdicts)
 
--- ---- no certificate
-
--- of these conditions, of which this is known, one was found, and a valid certificate of it can't be written
-abbrev pub LeavesOut : List Condition → List Known → Type 0
-LeavesOut [] ks = ⊥
-LeavesOut (c ∷ cs) [] = ⊥
-LeavesOut (c ∷ cs) (k ∷ ks) = ((is_found k.end ≡ true) × HasUnwritable c) ⊎ LeavesOut cs ks
-
--- the search of some condition closed all leaves, and no certificate that can be written was made of them
-pub record IsUncertified (p : Program) (budget : ℕ) (a : Answer) : Type 0 where
-  pub verdicts : List Known
-  pub known : AreVerdicts [] budget p verdicts
-  pub left : LeavesOut (conditions_of p) verdicts
-  pub answer : a ≡ refused 13 not_certified
-
 -- ---- steps
 
 abbrev pub judges : List ℕ → List ℕ → Program → ℕ → Sense → Came Answer → Type 0
 judges name bytes p budget m (Ok a) = IsJudged name bytes p budget a
-judges name bytes p budget stated (Err a) = IsUncertified p budget a
-judges name bytes p budget due (Err a) = ⊥
+judges name bytes p budget m (Err a) = ⊥
 
 -- the order of the steps up to the save
 abbrev pub proves_source : List ℕ → ℕ → List ℕ → Sense → Came Answer → Type 0

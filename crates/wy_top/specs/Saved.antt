@@ -21,13 +21,12 @@ abbrev pub AreSpelled : List Condition → Type 0
 AreSpelled [] = Unit {0}
 AreSpelled (c ∷ cs) = AreFormulas (c.hyps ++ c.goal ∷ []) × AreSpelled cs
 
--- all conditions are closed, each of them got a certificate, and the entries of all fit
+-- all conditions are closed, and the entries of all fit
 pub record IsFull (p : Program) (budget : ℕ) (es : Entries) (text : List ℕ) (f : IsCacheOf p budget es text) : Type 0 where
   pub closed : are_closed f.verdicts ≡ true
-  pub each : length f.certificates ≡ count_of p
   pub fits : f.is.behind ≡ []
 
--- Where a cache that was saved has all conditions of a program, whose formulas can be written, and a text is that of one formula, the entries that it is read as keep all of them, whatever the budget, and none is searched.
+-- Where all conditions of a program are closed and their entries fit into the cache that is saved, its formulas can be written, and a text is that of one formula, the entries that it is read as keep all of them, whatever the budget, and none is searched.
 abbrev pub RenewedKeepsAll : Type 0
 RenewedKeepsAll =
     (p : Program) (budget : ℕ) (es : Entries) (text : List ℕ) (f : IsCacheOf p budget es text) → IsFull p budget es text f → AreSpelled (conditions_of p) → FormulasAreTold

@@ -46,7 +46,6 @@ use wy_top_words::{Words, WordsFault, read_words};
 /// | 9 | want of memory |
 /// | 11 | the turns of the test of the arguments are spent |
 /// | 12 | a probe found arguments on which the program faults |
-/// | 13 | a condition was found and not certified: never seen |
 ///
 /// Conditions are judged by as many workers as the words say, side by side in threads that `rt` starts. What comes doesn't depend on
 /// their number.

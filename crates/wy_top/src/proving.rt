@@ -1,8 +1,6 @@
 //! What the command `prove` makes of a source.
 ghost use Rattle.std.specs.Prelude.{◌≡◌, ◌≤◌, ◌<◌, ◌^◌, [], ℕ, List, length, map, IfOk, IfErr};
 ghost use Rattle.wy_top_probe.specs.wy_top_answers.Answers as answers;
-ghost use Rattle.wy_top_probe.specs.wy_top_answers.Answers.{IsRefusal};
-ghost use Rattle.wy_top_probe.specs.wy_top_answers.Texts.{not_certified};
 ghost use Rattle.wy_cert.specs.Steps.{NameTheirTerms, certificates_of};
 ghost use Rattle.wy_top.specs.Kept.{AreEach, HasVerdicts, IsKept, answer_in, program_in};
 ghost use Rattle.wy_top.specs.Programs.{Program};
@@ -26,24 +24,13 @@ use wy_port::Files;
 use wy_term::NoMemory;
 use wy_top_probe::load_alone;
 use wy_top_probe::wy_top_answers::report::accepted as accepted_line;
-use wy_top_probe::wy_top_answers::{Answer, no_memory, refusal};
+use wy_top_probe::wy_top_answers::{Answer, no_memory};
 
 /// What `prove` saves, and what it answers behind the save.
 #[derive(Drop)]
 pub struct Proof {
     pub saved: Bytes,
     pub answer: Answer,
-}
-
-// The answer where a search closed all leaves of a condition, and no certificate was made of them.
-fn uncertified(alloc: Global) -> Answer
-    ensures value { IsRefusal 13 not_certified result }
-{
-    refusal(
-        alloc,
-        13,
-        String::from_str(alloc, "wy: found and not certified\n"),
-    )
 }
 
 // What is answered behind the save.
@@ -117,8 +104,7 @@ fn made(
         ..
     } = judged;
     match found_certificates(alloc, &mut conds.terms, &conds.list, &verdicts, budget) {
-        Ok(Some(certs)) => saved_with(alloc, &certs, answer),
-        Ok(None) => Err(uncertified(alloc)),
+        Ok(certs) => saved_with(alloc, &certs, answer),
         Err(_) => Err(no_memory(alloc)),
     }
 }

@@ -1,7 +1,7 @@
 -- Steps that give what is due and nothing else, alone and one behind the other.
 use Rattle.std.proofs.Common.{◌≡◌, ◌⊎◌, ◌∙◌, ℕ, List, Ok, Err, inl, inr, refl, sym, ap, subst}
 use Rattle.wy_top_answers.specs.Answers.{refused, no_memory, IsRefusal}
-use Rattle.wy_top_answers.specs.Steps.{Setting, Came, Sense, stated, due, goes_on, ends, and_then, IsOutside, memory, from_outside, EndsOutside, IsFree, EndsFree, Gives}
+use Rattle.wy_top_answers.specs.Steps.{Setting, Came, Sense, stated, due, goes_on, ends, and_then, IsOutside, memory, EndsOutside, Gives}
 use Rattle.wy_top_answers.specs.declared.answer.Answer.{Answer}
 
 -- ---- one step
@@ -12,11 +12,7 @@ value_gives s step x is only = record { comes = inl is; only = λ other h. inl (
 
 -- an answer from outside
 pub outside_gives : {X : Type 0} (s : Setting) (step : Sense → Came X → Type 0) (a : Answer) → IsOutside s a → Gives s step (Err a)
-outside_gives s step a free = record { comes = inr free; only = λ other h. inr (from_outside free) }
-
--- a free answer that is stated
-pub free_gives : {X : Type 0} (s : Setting) (step : Sense → Came X → Type 0) (a : Answer) → step stated (Err a) → IsFree s a → Gives s step (Err a)
-free_gives s step a is free = record { comes = inl is; only = λ other h. inr free }
+outside_gives s step a free = record { comes = inr free; only = λ other h. inr free }
 
 pub memory_gives : {X : Type 0} (s : Setting) (step : Sense → Came X → Type 0) (a : Answer) → a ≡ no_memory → Gives s step (Err a)
 memory_gives s step a e = outside_gives s step a (memory e)
@@ -66,15 +62,15 @@ goes {X = X} {Y = Y} s first next x r f n = record { comes = by_steps f.comes n.
     by_steps (inl p) (inr free) = inr free
     by_steps (inr never) q = absurd never
 
-    by_value : (other : Came Y) (y : X) → next y due other → (went y ≡ went x) ⊎ EndsFree s (went x) → (other ≡ r) ⊎ EndsFree s r
+    by_value : (other : Came Y) (y : X) → next y due other → (went y ≡ went x) ⊎ EndsOutside s (went x) → (other ≡ r) ⊎ EndsOutside s r
     by_value other y q (inl e) = n.only other (subst (λ (z : X). next z due other) (one_value x y e) q)
     by_value other y q (inr never) = absurd never
 
-    by_answer : (other : Came Y) (a : Answer) → (stopped X a ≡ went x) ⊎ EndsFree s (went x) → (other ≡ r) ⊎ EndsFree s r
+    by_answer : (other : Came Y) (a : Answer) → (stopped X a ≡ went x) ⊎ EndsOutside s (went x) → (other ≡ r) ⊎ EndsOutside s r
     by_answer other a (inl e) = absurd (never_both x a (sym e))
     by_answer other a (inr never) = absurd never
 
-    by_other : (other : Came Y) → and_then first next due other → (other ≡ r) ⊎ EndsFree s r
+    by_other : (other : Came Y) → and_then first next due other → (other ≡ r) ⊎ EndsOutside s r
     by_other other (goes_on y p q) = by_value other y q (f.only (Ok y) p)
     by_other other (ends a p e) = by_answer other a (f.only (Err a) p)
 
@@ -86,15 +82,15 @@ ends_there {X = X} {Y = Y} s first next a f = record { comes = by_step f.comes; 
     by_step (inl p) = inl (ends a p refl)
     by_step (inr free) = inr free
 
-    by_value : (other : Came Y) (y : X) → (went y ≡ stopped X a) ⊎ IsFree s a → (other ≡ Err a) ⊎ IsFree s a
+    by_value : (other : Came Y) (y : X) → (went y ≡ stopped X a) ⊎ IsOutside s a → (other ≡ Err a) ⊎ IsOutside s a
     by_value other y (inl e) = absurd (never_both y a e)
     by_value other y (inr free) = inr free
 
-    by_answer : (other : Came Y) (b : Answer) → other ≡ Err b → (stopped X b ≡ stopped X a) ⊎ IsFree s a → (other ≡ Err a) ⊎ IsFree s a
+    by_answer : (other : Came Y) (b : Answer) → other ≡ Err b → (stopped X b ≡ stopped X a) ⊎ IsOutside s a → (other ≡ Err a) ⊎ IsOutside s a
     by_answer other b d (inl e) = inl (d ∙ ap (λ (c : Answer). Err c) (one_answer X a b e))
     by_answer other b d (inr free) = inr free
 
-    by_other : (other : Came Y) → and_then first next due other → (other ≡ Err a) ⊎ IsFree s a
+    by_other : (other : Came Y) → and_then first next due other → (other ≡ Err a) ⊎ IsOutside s a
     by_other other (goes_on y p q) = by_value other y (f.only (Ok y) p)
     by_other other (ends b p e) = by_answer other b e (f.only (Err b) p)
 

@@ -3,7 +3,7 @@ use Rattle.std.specs.Prelude.{◌≡◌, ◌≢◌, ◌⊎◌, ◌≤◌, ℕ, L
 use Rattle.wy_port.specs.Count.{Rose}
 use Rattle.wy_port.specs.Told.{Told}
 use Rattle.wy_port.specs.Told.Told.{Unknown}
-use Rattle.wy_top_answers.specs.Texts.{load_failed, not_certified}
+use Rattle.wy_top_answers.specs.Texts.{load_failed}
 use Rattle.wy_top_answers.specs.Answers.{refused, no_memory}
 use Rattle.wy_top_answers.specs.declared.answer.Answer.{Answer}
 
@@ -83,19 +83,10 @@ abbrev pub EndsOutside : {X : Type 0} → Setting → Came X → Type 0
 EndsOutside s (Ok x) = ⊥
 EndsOutside s (Err a) = IsOutside s a
 
--- an answer in place of which another one may be due: one from outside; or, as was never seen, that a condition whose search closed got no certificate
-pub data IsFree (s : Setting) (a : Answer) : Type 0 where
-  from_outside : IsOutside s a → IsFree s a
-  uncertified : a ≡ refused 13 not_certified → IsFree s a
-
-abbrev pub EndsFree : {X : Type 0} → Setting → Came X → Type 0
-EndsFree s (Ok x) = ⊥
-EndsFree s (Err a) = IsFree s a
-
--- What is stated of what the step came to holds, or it came to an answer from outside. What is due is this and nothing else, unless this is a free answer.
+-- What is stated of what the step came to holds, or it came to an answer from outside. What is due is this and nothing else, unless this came from outside.
 pub record Gives {X : Type 0} (s : Setting) (step : Sense → Came X → Type 0) (r : Came X) : Type 0 where
   pub comes : step stated r ⊎ EndsOutside s r
-  pub only : (other : Came X) → step due other → (other ≡ r) ⊎ EndsFree s r
+  pub only : (other : Came X) → step due other → (other ≡ r) ⊎ EndsOutside s r
 
 -- ---- the end of a command that streams nothing
 

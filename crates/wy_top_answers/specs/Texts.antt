@@ -25,9 +25,3 @@ load_text name Absent = of_file name (codes "absent")
 load_text name TooLong = of_file name (codes "too long")
 load_text name Failed = load_failed name
 load_text name NoMemory = []
-
--- ---- what was never seen
-
--- the search closed each branch of a condition, and no certificate was made of it
-abbrev pub not_certified : List ℕ
-not_certified = codes "wy: found and not certified\n"

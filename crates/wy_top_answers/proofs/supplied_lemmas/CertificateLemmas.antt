@@ -8,7 +8,7 @@ use Rattle.wy_cert.specs.File.{ReadsFile}
 use Rattle.wy_top_answers.specs.Answers.{refused, IsRefusal}
 use Rattle.wy_top_answers.specs.supplied.Certificates.{IsBadFile, certificates, certificates_read, fault_text, no_file, without, from_file}
 use Rattle.wy_top_answers.specs.Loading.{loaded, certificate_limit}
-use Rattle.wy_top_answers.specs.Steps.{Setting, Came, stated, due, EndsFree, EndsOutside, Follows, Gives, both, and_then}
+use Rattle.wy_top_answers.specs.Steps.{Setting, Came, stated, due, EndsOutside, Follows, Gives, both, and_then}
 use Rattle.wy_top_answers.specs.declared.answer.Answer.{Answer}
 use Rattle.wy_top_answers.proofs.StepLemmas.{value_gives, memory_gives, refusal_gives}
 
@@ -84,7 +84,7 @@ file_gives s name count r named g = record { comes = by_step g.comes; only = λ 
     by_step (inl h) = inl (from_file named h)
     by_step (inr free) = inr free
 
-    by_other : (other : Came Certificates) → certificates s name count due other → (other ≡ r) ⊎ EndsFree s r
+    by_other : (other : Came Certificates) → certificates s name count due other → (other ≡ r) ⊎ EndsOutside s r
     by_other other (without d h) = absurd (named d)
     by_other other (from_file d h) = g.only other h
 

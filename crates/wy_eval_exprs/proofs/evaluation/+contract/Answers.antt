@@ -11,7 +11,7 @@ use Rattle.wy_value.specs.Datum as datum
 use Rattle.wy_value.specs.declared.value.Value.TheVariants as value
 use Rattle.wy_value.specs.Seen.{seen}
 use Rattle.wy_value.proofs.SeenLemmas.{seen_null, seen_bool, seen_int}
-use Rattle.wy_sem.specs.Meter.{Done, Fault, ◌>>=◌, choose}
+use Rattle.wy_sem.specs.Meter.{Meter, Done, Fault, ◌>>=◌, choose}
 use Rattle.wy_term.specs.declared.cond.CondKind.TheVariants.{Member}
 use Rattle.wy_sem.specs.Expressions as spec
 use Rattle.wy_sem.specs.Expressions.{eval, slot}
@@ -21,11 +21,12 @@ use Rattle.wy_sem.specs.Operations as operations
 use Rattle.wy_sem.specs.Operations.{needed}
 use Rattle.wy_eval_exprs.specs.declared.stop.Stop.TheVariants as stop
 use Rattle.wy_eval_exprs.specs.Operands.{items_of, parts_of}
-use Rattle.wy_eval_exprs.specs.Outcomes.{itself, meter_of, stopped}
+use Rattle.wy_eval_exprs.specs.Outcomes.{Gives, itself, meter_of, stopped}
 use Rattle.wy_eval_exprs.specs.Scopes.{scope, store_of}
 use Rattle.wy_eval_exprs.specs.Settings.{asked_by, data_in, items_by, named_by, parts_by, questions, setting, tests_at, turns_of}
 use Rattle.wy_core_lemmas.proofs.ExpressionKinds.{null_of, bool_of, int_of, var_of, call_of, neg_of, not_of, len_of, binary_of, is_of, index_of, field_of, list_of, repeat_of, record_of, quant_of}
 use Rattle.wy_core_lemmas.proofs.TypeKinds.{null_type, bool_type, int_type, any_type, void_type, record_type, array_type, union_type, inter_type, not_type, named_type}
+use Rattle.wy_eval_exprs.proofs.KnownLemmas.{in_contract, of_contract}
 use Rattle.wy_eval_exprs.proofs.StepLemmas.{gives_as, spent, refused, then_gives, then_is, then_stops, after_spend, as_kind, eval_stops, array_is, record_is, no_memory, turned, after_turn, asked_stops, as_ty}
 use Rattle.wy_eval_exprs.proofs.TurnLemmas.{values_begin, values_turn, values_refused, values_end, fields_begin, fields_turn, fields_refused, fields_end, hold_refused, hold_faults, hold_end, items_turn, items_false, items_refused, items_end, parts_turn, parts_false, parts_refused, parts_short, parts_end, turns_turn, turns_early, turns_refused, turns_fault, TurnsLeft, tys_of}
 use Rattle.wy_eval_exprs.proofs.VisitLemmas.{array_there, clause_is, each_from, record_there, turn_is, turn_refused, clauses_forgiven, clauses_give, definition_nowhere, definition_there, early_said, early_silent, few, items_at, name_at, parts_at, test_is, types_counted, void_asked}
@@ -1048,8 +1049,22 @@ type_test-returns t c =
           (test_is c.args.declared.now.types L c.args.depth j c.args.paid (seen_ty c.args.ty.now) (seen c.args.value.now) M0 c.len-bare.result deep c.len-bare.ensures) c.asked.ensures.value;
     }
 
-pub name_asked-returns-in_err-within-in-Some : goal.name_asked-returns-in_err-within-in-Some
-name_asked-returns-in_err-within-in-Some t c =
+pub name_asked-returns-in-Some : goal.name_asked-returns-in-Some
+name_asked-returns-in-Some t c =
+    let T = map seen_alias c.args.declared.now.types in
+    let L = c.args.declared.now.limit in
+    let D = seen c.args.value.now in
+    let M0 = meter_of c.args.meter.now in
+    let known = c.in-Some.known.now in
+    let K : Meter = record { ticks = M0.ticks; turns = known.turns; output = M0.output } in
+    let fresh = c.is_of_contract.ensures.value c.if-not-is_of_contract.false in
+    let h = in_contract T L c.args.depth c.args.paid c.args.forgives c.args.bare c.args.number D M0 K M0.turns known.turns known.found c.if-paid.false
+    (of_contract M0 M0.turns fresh.0 refl fresh.1) (of_contract K known.turns fresh.0 refl fresh.1) c.in-Some.ensures.value
+    in
+    record { value = subst (λ r. Gives itself (named_by (questions T L c.args.depth c.args.paid c.args.forgives) c.args.bare D c.args.number M0) r K) (sym c.again.ensures.value) h }
+
+pub name_visited-returns-in_err-within-in-Some : goal.name_visited-returns-in_err-within-in-Some
+name_visited-returns-in_err-within-in-Some t c =
     let Q = questions (map seen_alias c.args.declared.now.types) c.args.declared.now.limit c.args.depth c.args.paid c.args.forgives in
     let D = seen c.args.value.now in
     let M0 = meter_of c.args.meter.now in
@@ -1069,8 +1084,8 @@ name_asked-returns-in_err-within-in-Some t c =
           (then_stops itself (asked_by Q j D T M0) next K c.in_err-within-in-Some.field-0.0 c.from_residual.result c.in_err-within-in-Some.ensures.value c.from_residual.ensures.1);
     }
 
-pub name_asked-returns-then-not-within : goal.name_asked-returns-then-not-within
-name_asked-returns-then-not-within t c =
+pub name_visited-returns-then-not-within : goal.name_visited-returns-then-not-within
+name_visited-returns-then-not-within t c =
     let Q = questions (map seen_alias c.args.declared.now.types) c.args.declared.now.limit c.args.depth c.args.paid c.args.forgives in
     let D = seen c.args.value.now in
     let M0 = meter_of c.args.meter.now in
@@ -1088,8 +1103,8 @@ name_asked-returns-then-not-within t c =
     let w = c.in_ok-within-in-Some.within in
     record { value = at ∙ (then_is (asked_by Q j D T M0) next w K c.in_ok-within-in-Some.ensures.value ∙ ap (λ b. choose b (Q.clause n D) (tests.answer false) K) c.if-not-within.true) }
 
-pub name_asked-returns-then-forgives : goal.name_asked-returns-then-forgives
-name_asked-returns-then-forgives t c =
+pub name_visited-returns-then-forgives : goal.name_visited-returns-then-forgives
+name_visited-returns-then-forgives t c =
     let Q = questions (map seen_alias c.args.declared.now.types) c.args.declared.now.limit c.args.depth c.args.paid c.args.forgives in
     let D = seen c.args.value.now in
     let M0 = meter_of c.args.meter.now in
@@ -1118,8 +1133,8 @@ name_asked-returns-then-forgives t c =
           (clauses_forgiven (map seen_alias all) c.args.declared.now.limit c.args.depth c.args.paid c.args.forgives n D O K r c.forgiven.result K2 c.if-forgives.true held c.all_hold-answer.ensures.value c.forgiven.ensures.value);
     }
 
-pub name_asked-returns-else-forgives : goal.name_asked-returns-else-forgives
-name_asked-returns-else-forgives t c =
+pub name_visited-returns-else-forgives : goal.name_visited-returns-else-forgives
+name_visited-returns-else-forgives t c =
     let Q = questions (map seen_alias c.args.declared.now.types) c.args.declared.now.limit c.args.depth c.args.paid c.args.forgives in
     let D = seen c.args.value.now in
     let M0 = meter_of c.args.meter.now in
@@ -1148,8 +1163,8 @@ name_asked-returns-else-forgives t c =
           (clauses_give (map seen_alias all) c.args.declared.now.limit c.args.depth c.args.paid c.args.forgives n D O K r K2 c.if-forgives.false held c.all_hold-answer.ensures.value);
     }
 
-pub name_asked-returns-in_err-turn-in-None : goal.name_asked-returns-in_err-turn-in-None
-name_asked-returns-in_err-turn-in-None t c =
+pub name_visited-returns-in_err-turn-in-None : goal.name_visited-returns-in_err-turn-in-None
+name_visited-returns-in_err-turn-in-None t c =
     let Q = questions (map seen_alias c.args.declared.now.types) c.args.declared.now.limit c.args.depth c.args.paid c.args.forgives in
     let D = seen c.args.value.now in
     let M0 = meter_of c.args.meter.now in
@@ -1168,8 +1183,8 @@ name_asked-returns-in_err-turn-in-None t c =
           (then_stops itself (asked_by Q j D ty.VoidTy M0) next K e r (λ none. asked_stops Q (named_by Q j D) D (items_by Q D) (parts_by Q D) ty.VoidTy M0 K e c.in_err-turn-in-None.ensures.value none) c.from_residual-in_err-turn-in-None.ensures.1);
     }
 
-pub name_asked-returns-in_ok-turn-in-None : goal.name_asked-returns-in_ok-turn-in-None
-name_asked-returns-in_ok-turn-in-None t c =
+pub name_visited-returns-in_ok-turn-in-None : goal.name_visited-returns-in_ok-turn-in-None
+name_visited-returns-in_ok-turn-in-None t c =
     let Q = questions (map seen_alias c.args.declared.now.types) c.args.declared.now.limit c.args.depth c.args.paid c.args.forgives in
     let D = seen c.args.value.now in
     let M0 = meter_of c.args.meter.now in

@@ -47,7 +47,10 @@ abbrev pub decreases-type_test : goal.decreases-type_test
 decreases-type_test a = a.room * 4 + 1
 
 abbrev pub decreases-name_asked : goal.decreases-name_asked
-decreases-name_asked a = a.room * 4 + 2
+decreases-name_asked a = a.room * 4 + 3
+
+abbrev pub decreases-name_visited : goal.decreases-name_visited
+decreases-name_visited a = a.room * 4 + 2
 
 abbrev pub invariant-all_hold-loop-clause : goal.invariant-all_hold-loop-clause
 invariant-all_hold-loop-clause l = HoldLeft (setting (map seen_alias l.declared.types) l.declared.limit l.depth) l.paid (store_of l.store) l.clauses (meter_of l.fn.meter) (meter_of l.meter) (drop l.clause-index l.clauses)

@@ -9,8 +9,7 @@ use Rattle.wy_top.specs.Programs.{conditions_of}
 use Rattle.wy_top.specs.Proofs.{judges}
 use Rattle.wy_batch.specs.Seen.{known}
 use Rattle.wy_batch.specs.declared.verdict.Verdict.{Verdict}
-use Rattle.wy_top.proofs.FoundLemmas.{left_out}
-use Rattle.wy_top.proofs.ProofLemmas.{found_for, lacks_for, saved_file, saved_gives, unmade_gives}
+use Rattle.wy_top.proofs.ProofLemmas.{found_for, saved_file, saved_gives}
 use Rattle.wy_top.proofs.proving.made.Goals as goal
 
 pub found_certificates-requires-clause-formed : goal.found_certificates-requires-clause-formed
@@ -22,19 +21,13 @@ returns-in-Err-clause-gives c = λ s p h. memory_gives s (judges c.args.name.now
 pub returns-clause-gives : goal.returns-clause-gives
 returns-clause-gives c = λ s p h. memory_gives s (judges c.args.name.now c.args.bytes.now p c.args.budget) c.no_memory-in-Err-found_certificates.result c.no_memory-in-Err-found_certificates.ensures.value
 
-pub returns-in-Ok-Some-clause-gives : goal.returns-in-Ok-Some-clause-gives
-returns-in-Ok-Some-clause-gives c = λ s p h.
-    saved_gives s c.args.name.now c.args.bytes.now p c.args.budget c.in-Ok.answer (map known c.args.judged.verdicts.items) (file_text (certificates_of c.in-Ok-Some.certs)) c.saved_with.result h.known (c.in-Ok.ensures.value p h)
+pub returns-in-Ok-found_certificates-clause-gives : goal.returns-in-Ok-found_certificates-clause-gives
+returns-in-Ok-found_certificates-clause-gives c = λ s p h.
+    saved_gives s c.args.name.now c.args.bytes.now p c.args.budget c.in-Ok.answer (map known c.args.judged.verdicts.items) (file_text (certificates_of c.in-Ok-found_certificates.certs)) c.saved_with.result h.known (c.in-Ok.ensures.value p h)
     c.saved_with.ensures.value c.saved_with.ensures.memory
 
-pub returns-in-Ok-Some-clause-file : goal.returns-in-Ok-Some-clause-file
-returns-in-Ok-Some-clause-file c = λ p h.
+pub returns-in-Ok-found_certificates-clause-file : goal.returns-in-Ok-found_certificates-clause-file
+returns-in-Ok-found_certificates-clause-file c = λ p h.
     let few : length (conditions_of p) < 2 ^ 32 = omega (arith, c.requires.each.few, h.count) in
-    saved_file p c.args.budget c.in-Ok.answer (map known c.args.judged.verdicts.items) (certificates_of c.in-Ok-Some.certs) c.saved_with.result h.known
-    (found_for p c.args.judged c.deref.result.now c.deref-2.result.now c.in-Ok-Some.field-0 c.in-Ok-Some.certs c.deref.ensures.value c.deref-2.ensures.value h.conditions c.in-Ok-Some.field-0-is c.in-Ok-Some.ensures.certificates) few c.saved_with.ensures.value
-
-pub returns-in-Ok-None-clause-gives : goal.returns-in-Ok-None-clause-gives
-returns-in-Ok-None-clause-gives c = λ s p h.
-    unmade_gives s c.args.name.now c.args.bytes.now p c.args.budget c.uncertified.result (map known c.args.judged.verdicts.items) h.known
-    (left_out c.args.budget 1 (conditions_of p) (map known c.args.judged.verdicts.items) h.known
-    (lacks_for p c.args.budget c.args.judged c.deref.result.now c.deref-2.result.now c.deref.ensures.value c.deref-2.ensures.value h.conditions (c.in-Ok-None.ensures.lacking c.in-Ok-None.field-0-is))) c.uncertified.ensures.value
+    saved_file p c.args.budget c.in-Ok.answer (map known c.args.judged.verdicts.items) (certificates_of c.in-Ok-found_certificates.certs) c.saved_with.result h.known
+    (found_for p c.args.budget c.args.judged c.deref.result.now c.deref-2.result.now c.in-Ok-found_certificates.certs c.deref.ensures.value c.deref-2.ensures.value h.conditions h.known c.in-Ok-found_certificates.ensures.certificates) few c.saved_with.ensures.value
