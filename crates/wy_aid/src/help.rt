@@ -28,7 +28,7 @@ pub const HELP: &str = concat!(
     "Statuses: 0 done; 1 SRC is refused; 2 the words are no command; 3, 4, 10 a file is absent, not loaded,\n",
     "too long; 5 a save or a sink failed; 6 CERT holds no certificates; 7 the entry or the arguments don't fit;\n",
     "8 the steps are spent; 9 want of memory; 11 the test of the arguments takes too long; 12 probe found a\n",
-    "fault; 13 found and not certified.\n",
+    "fault.\n",
     "\n",
     "docs/WRITING.md leads from a first function to an accepted loop.\n",
 );

@@ -120,8 +120,9 @@ fn kept_among(
 }
 
 /// The certificates of the conditions that a cache shows: of each for which the first entry with its text has a valid
-/// certificate, that one, which can be written again. The conditions are as before afterwards, at want of memory too. It takes expected time linear in the
-/// cache and in the texts of the conditions, beside what making terms and checking the certificates take; nothing is searched.
+/// certificate, that one, which can be written again. The conditions are as before afterwards, at want of memory too.
+/// It takes expected time linear in the cache and in the texts of the conditions, beside what making terms and checking
+/// the certificates take; nothing is searched.
 pub fn kept(cache: &Cache, conds: &mut Conds) -> Result<Certs, NoMemory>
     requires conds { All (IsWithin (length conds.old.terms)) conds.old.list.items }
     ensures value { IfOk result (λ certs. IsTheOne (AreKept (all_held cache.now.entries.items) 1 (map (condition_of conds.old.terms) conds.old.list.items)) (certificates_of certs)) }
