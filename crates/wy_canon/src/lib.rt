@@ -24,4 +24,5 @@ pub use meets::{LIMIT, same_names};
 pub use normal_forms::{dnf, dnf_part, with_sides};
 pub use numbered::{NumberedConjuncts, NumberedParts};
 pub use trees::{conjuncts_at, ty_at};
+pub use wy_types;
 pub use wy_types::{Atom, Conjunct, Names, Part, Question, Signed, Table, wy_core};

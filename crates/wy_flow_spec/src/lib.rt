@@ -5,3 +5,5 @@
 
 pub mod environment;
 pub mod typing;
+
+pub use wy_subtype_parts;

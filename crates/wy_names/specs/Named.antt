@@ -13,9 +13,9 @@ use Rattle.wy_names_recursion.specs.Uses.{Edges}
 use Rattle.wy_names_recursion.specs.DeclUses.{edges_of}
 use Rattle.wy_names_recursion.specs.Recursion.{NotesRecursion}
 use Rattle.wy_names_recursion.specs.Endings.{IsOrder}
-use Rattle.wy_names_expand.specs.Faults as expand
-use Rattle.wy_names_expand.specs.Summaries.{summaries}
-use Rattle.wy_names_expand.specs.declared.measure.Expansion.{Expansion}
+use Rattle.wy_names_lower.specs.wy_names_expand.Faults as expand
+use Rattle.wy_names_lower.specs.wy_names_expand.Summaries.{summaries}
+use Rattle.wy_names_lower.specs.wy_names_expand.declared.measure.Expansion.{Expansion}
 use Rattle.wy_names_lower.specs.Templates.{templates}
 use Rattle.wy_names_lower.specs.DeclsLowered as lower
 use Rattle.wy_names.specs.NameFaults.{fault_named}

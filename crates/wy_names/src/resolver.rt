@@ -9,7 +9,7 @@ use std::alloc::{AllocError, Global};
 use wy_ast::{Decl, Program};
 use wy_core::Core;
 use wy_items::Items;
-use wy_names_expand::{Expansion, in_decls, summaries};
+use wy_names_lower::wy_names_expand::{Expansion, in_decls, summaries};
 use wy_names_lower::{core_of, templates_of};
 use wy_names_recursion::{bind, edges_of, noted_recursion, order_of};
 use wy_names_scope::{Fault, Table, declare};

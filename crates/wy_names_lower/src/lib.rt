@@ -29,3 +29,4 @@ mod uses;
 pub use declarations::core_of;
 pub use templates::templates_of;
 pub use uses::Template;
+pub use wy_names_expand;

@@ -24,5 +24,5 @@ pub use valued::{Inhabited, inhabited_parts, narrow_conjuncts, valued_conjuncts}
 pub use values::has_value;
 pub use wy_canon::{
     Atom, Conjunct, Names, Part, Question, Signed, Table, TypeFault, conjuncts_at, copy_part,
-    copy_terms, dnf_part, united_conjuncts, with_sides, wy_core,
+    copy_terms, dnf_part, united_conjuncts, with_sides, wy_core, wy_types,
 };

@@ -17,3 +17,4 @@ pub use array_items::{element, element_in};
 pub use normal_forms::{normal, normal_in};
 pub use norms::norm_in;
 pub use record_fields::{field, field_in};
+pub use wy_subtype::{wy_core, wy_types};

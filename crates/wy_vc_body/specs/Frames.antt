@@ -8,8 +8,8 @@ use Rattle.wy_term.specs.Nodes.{Plain}
 use Rattle.wy_vc_exprs.specs.wy_vc_spec.Numbered.{Node, numbered_core, numbered_routine}
 use Rattle.wy_vc_exprs.specs.wy_vc_spec.Statements.{Body}
 use Rattle.wy_vc_exprs.specs.wy_vc_spec.Walks as spec
-use Rattle.wy_vc_tables.specs.declared.program_names.program.Program.{Program}
-use Rattle.wy_vc_tables.specs.program_names.Described.{IsDescribed, IsCalled, setting}
+use Rattle.wy_vc_exprs.specs.wy_vc_tables.declared.program_names.program.Program.{Program}
+use Rattle.wy_vc_exprs.specs.wy_vc_tables.program_names.Described.{IsDescribed, IsCalled, setting}
 use Rattle.wy_vc_body.specs.Types.{types_in}
 use Rattle.wy_vc_exprs.specs.Slots.{AreSlots, slots_of}
 use Rattle.wy_vc_body.specs.declared.frame.Frame.{Frame}

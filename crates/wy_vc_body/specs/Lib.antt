@@ -20,5 +20,5 @@ pub mod Results
 -- passed on to the crates above
 pub use Rattle.wy_vc_exprs.specs as wy_vc_exprs
 pub use Rattle.wy_vc_exprs.specs.wy_vc_operations as wy_vc_operations
-pub use Rattle.wy_vc_tables.specs as wy_vc_tables
+pub use Rattle.wy_vc_exprs.specs.wy_vc_tables as wy_vc_tables
 pub use Rattle.wy_vc_exprs.specs.wy_vc_terms as wy_vc_terms

@@ -8,7 +8,7 @@ ghost use Rattle.wy_core.specs.CoreSeen.{seen_block, seen_expr, seen_exprs};
 ghost use Rattle.wy_vc_body.specs.Frames.{IsFrame, body_at, program_of};
 ghost use Rattle.wy_vc_body.specs.Loops.{Renews, name_if, renewed_names, renewed_types, type_if, with_name, with_type};
 ghost use Rattle.wy_vc_body.specs.Paths.{spot_of};
-ghost use Rattle.wy_vc_tables.specs.program_names.Described.{IsDescribed, setting};
+ghost use Rattle.wy_vc_exprs.specs.wy_vc_tables.program_names.Described.{IsDescribed, setting};
 ghost use Rattle.wy_vc_exprs.specs.Slots.{AreSlots, slots_of};
 ghost use Rattle.wy_vc_exprs.specs.State.{IsSound, Steps, hyps_of};
 
@@ -22,8 +22,8 @@ use std::alloc::Global;
 use wy_core::{Core, Expr, Stmt};
 use wy_data::Name;
 use wy_term::{CondKind, NoMemory};
+use wy_vc_exprs::wy_vc_tables::program_names::Program;
 use wy_vc_exprs::{Walk, assume_in_type, formula, owe_clauses, put, variable, walked};
-use wy_vc_tables::program_names::Program;
 
 fn both(a: bool, b: bool) -> bool
     ensures value { result ≡ a && b }

@@ -7,7 +7,7 @@ ghost use Rattle.wy_term.specs.Nodes.{tree_at};
 ghost use Rattle.wy_vc_body.specs.Frames.{IsFrame, body_at};
 ghost use Rattle.wy_vc_body.specs.Going.{Went};
 ghost use Rattle.wy_vc_body.specs.Paths.{spot_of};
-ghost use Rattle.wy_vc_tables.specs.program_names.Described.{setting};
+ghost use Rattle.wy_vc_exprs.specs.wy_vc_tables.program_names.Described.{setting};
 ghost use Rattle.wy_vc_body.specs.Types.{or_any};
 ghost use Rattle.wy_vc_exprs.specs.Slots.{AreSlots};
 ghost use Rattle.wy_vc_exprs.specs.State.{IsSound, Steps, hyps_of};

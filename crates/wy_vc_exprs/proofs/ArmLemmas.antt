@@ -23,8 +23,8 @@ use Rattle.wy_vc_terms.specs.wy_vc_spec.Clauses.{Passed, passed, after, in_type}
 use Rattle.wy_vc_terms.specs.wy_vc_spec.Calls.{Walked}
 use Rattle.wy_vc_terms.specs.wy_vc_spec.Values.{field_names, word_at}
 use Rattle.wy_vc_terms.specs.wy_vc_spec.Walks.{free, owing, goals_of, range_goals, index_goals, length_goals, operator_goals, right_hyps, behind_hyps}
-use Rattle.wy_vc_tables.specs.declared.program_names.program.Program.{Program}
-use Rattle.wy_vc_tables.specs.program_names.Described.{setting, is_number_in}
+use Rattle.wy_vc_terms.specs.wy_vc_tables.declared.program_names.program.Program.{Program}
+use Rattle.wy_vc_terms.specs.wy_vc_tables.program_names.Described.{setting, is_number_in}
 use Rattle.wy_vc_operations.specs.Growing.{Kept}
 use Rattle.wy_vc_terms.specs.declared.maker.Maker.{Maker}
 use Rattle.wy_vc_exprs.specs.Numbered.{trees_of}

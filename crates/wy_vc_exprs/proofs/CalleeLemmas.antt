@@ -9,9 +9,9 @@ use Rattle.wy_term.specs.Nodes.{Plain, tree_at}
 use Rattle.wy_term.specs.Numbers.{IsAt}
 use Rattle.wy_vc_terms.specs.wy_vc_spec.Numbered.{Node}
 use Rattle.wy_vc_terms.specs.wy_vc_spec.Calls.{are_characters}
-use Rattle.wy_vc_tables.specs.declared.program_names.program.Called.{Called}
-use Rattle.wy_vc_tables.specs.declared.program_names.program.Callee.TheVariants as callee
-use Rattle.wy_vc_tables.specs.program_names.Described.{IsCalled, IsFound}
+use Rattle.wy_vc_terms.specs.wy_vc_tables.declared.program_names.program.Called.{Called}
+use Rattle.wy_vc_terms.specs.wy_vc_tables.declared.program_names.program.Callee.TheVariants as callee
+use Rattle.wy_vc_terms.specs.wy_vc_tables.program_names.Described.{IsCalled, IsFound}
 use Rattle.wy_vc_operations.specs.Growing.{Makes}
 use Rattle.wy_vc_terms.specs.declared.maker.Maker.{Maker}
 use Rattle.wy_vc_exprs.proofs.NumberedLemmas.{at_itself}

@@ -6,7 +6,7 @@ use Rattle.wy_core.specs.declared.declarations.Core.{Core}
 use Rattle.wy_term.specs.wy_items.declared.memory.NoMemory.{NoMemory}
 use Rattle.wy_vc_terms.specs.wy_vc_spec.Sizes.{exprs_in}
 use Rattle.wy_vc_terms.specs.wy_vc_spec.Variables.{Vars}
-use Rattle.wy_vc_tables.specs.declared.program_names.program.Program.{Program}
+use Rattle.wy_vc_terms.specs.wy_vc_tables.declared.program_names.program.Program.{Program}
 use Rattle.wy_vc_exprs.specs.State.{Walks, hyps_of}
 use Rattle.wy_vc_exprs.specs.declared.walk.Walk.{Walk}
 use Rattle.wy_vc_exprs.proofs.ResultLemmas.{on_ok}

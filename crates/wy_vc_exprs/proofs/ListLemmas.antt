@@ -13,7 +13,7 @@ use Rattle.wy_vc_terms.specs.wy_vc_spec.Variables.{Vars}
 use Rattle.wy_vc_terms.specs.wy_vc_spec.Clauses.{Passed, after}
 use Rattle.wy_vc_terms.specs.wy_vc_spec.Calls.{Walked}
 use Rattle.wy_vc_terms.specs.wy_vc_spec.Walks.{WalkedAll}
-use Rattle.wy_vc_tables.specs.declared.program_names.program.Program.{Program}
+use Rattle.wy_vc_terms.specs.wy_vc_tables.declared.program_names.program.Program.{Program}
 use Rattle.wy_vc_operations.specs.Growing.{AreBelow}
 use Rattle.wy_vc_exprs.specs.Numbered.{trees_of}
 use Rattle.wy_vc_exprs.specs.Slots.{slots_of, AreSlots}

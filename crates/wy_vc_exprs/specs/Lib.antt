@@ -17,5 +17,5 @@ pub mod Walking
 -- passed on to the crates above
 pub use Rattle.wy_vc_operations.specs as wy_vc_operations
 pub use Rattle.wy_vc_terms.specs.wy_vc_spec as wy_vc_spec
-pub use Rattle.wy_vc_tables.specs as wy_vc_tables
+pub use Rattle.wy_vc_terms.specs.wy_vc_tables as wy_vc_tables
 pub use Rattle.wy_vc_terms.specs as wy_vc_terms

@@ -12,8 +12,8 @@ use Rattle.wy_vc_terms.specs.wy_vc_spec.Owed.{assume}
 use Rattle.wy_vc_terms.specs.wy_vc_spec.Calls.{Walked}
 use Rattle.wy_vc_terms.specs.wy_vc_spec.Clauses.{Passed, passed, in_type}
 use Rattle.wy_vc_terms.specs.wy_vc_spec.Walks.{Goals, assume_goals, owe_goals, free}
-use Rattle.wy_vc_tables.specs.declared.program_names.program.Program.{Program}
-use Rattle.wy_vc_tables.specs.program_names.Described.{setting}
+use Rattle.wy_vc_terms.specs.wy_vc_tables.declared.program_names.program.Program.{Program}
+use Rattle.wy_vc_terms.specs.wy_vc_tables.program_names.Described.{setting}
 
 -- goals are owed at a place
 abbrev pub passed_goals : ℕ → ℕ → List Term → List Goals → Passed

@@ -8,8 +8,8 @@ use Rattle.wy_vc_terms.specs.wy_vc_spec.Numbered.{numbered, numbered_all, number
 use Rattle.wy_vc_terms.specs.wy_vc_spec.Variables.{Vars}
 use Rattle.wy_vc_terms.specs.wy_vc_spec.Calls.{Walked, call_walk}
 use Rattle.wy_vc_terms.specs.wy_vc_spec.Walks.{CallWalks, WalkedAll, walk, walk_all, walk_fields}
-use Rattle.wy_vc_tables.specs.declared.program_names.program.Program.{Program}
-use Rattle.wy_vc_tables.specs.program_names.Described.{setting}
+use Rattle.wy_vc_terms.specs.wy_vc_tables.declared.program_names.program.Program.{Program}
+use Rattle.wy_vc_terms.specs.wy_vc_tables.program_names.Described.{setting}
 use Rattle.wy_vc_operations.specs.Growing.{AreAt}
 use Rattle.wy_vc_exprs.specs.State.{Steps, passed_by_all}
 use Rattle.wy_vc_exprs.specs.declared.walk.Walk.{Walk}

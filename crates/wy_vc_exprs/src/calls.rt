@@ -12,7 +12,7 @@ ghost use Rattle.wy_vc_terms.specs.wy_vc_spec.Variables as slots;
 ghost use Rattle.wy_vc_exprs.specs.Called.{numbered_behind};
 ghost use Rattle.wy_vc_terms.specs.wy_vc_spec.Making as made;
 ghost use Rattle.wy_vc_terms.specs.wy_vc_spec.Numbered.{Node as NumberedNode, numbered_core};
-ghost use Rattle.wy_vc_tables.specs.program_names.Described.{IsCalled, IsDescribed, setting};
+ghost use Rattle.wy_vc_terms.specs.wy_vc_tables.program_names.Described.{IsCalled, IsDescribed, setting};
 ghost use Rattle.wy_vc_operations.specs.Growing.{AreBelow, Makes};
 ghost use Rattle.wy_vc_exprs.specs.Numbered.{trees_of};
 ghost use Rattle.wy_vc_exprs.specs.Slots.{AreSlots, slots_of};
@@ -26,8 +26,8 @@ use wy_term::{CondKind, NoMemory, Terms};
 use wy_vc_operations::{
     at_most, both, every, get, len, null, num, number_name, number_of, put, val_name,
 };
-use wy_vc_tables::program_names::{Called, Callee, Program};
 use wy_vc_terms::k_word;
+use wy_vc_terms::wy_vc_tables::program_names::{Called, Callee, Program};
 
 // How many pairs there are of the one and the other.
 fn pairs(params: usize, args: usize) -> usize

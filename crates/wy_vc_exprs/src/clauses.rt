@@ -10,7 +10,7 @@ ghost use Rattle.wy_vc_terms.specs.wy_vc_spec.Values.{clause_formula, named_in};
 ghost use Rattle.wy_vc_terms.specs.wy_vc_spec.Variables.{Vars};
 ghost use Rattle.wy_term.specs.declared.cond.CondKind.TheVariants as kinds;
 ghost use Rattle.wy_vc_exprs.specs.Conjunctions.{clause_assumed, is_and, is_conjunction};
-ghost use Rattle.wy_vc_tables.specs.program_names.Described.{IsDescribed, setting};
+ghost use Rattle.wy_vc_terms.specs.wy_vc_tables.program_names.Described.{IsDescribed, setting};
 ghost use Rattle.wy_vc_operations.specs.Growing.{AreBelow, AreSlotsAt};
 ghost use Rattle.wy_vc_exprs.specs.GoalsMade.{AreMade};
 ghost use Rattle.wy_vc_exprs.specs.Slots.{AreSlots, slots_of};
@@ -21,7 +21,7 @@ use std::alloc::{AllocError, Global};
 use wy_core::{Core, Expr, ExprKind, Op, Ty};
 use wy_data::Name;
 use wy_term::{CondKind, NoMemory};
-use wy_vc_tables::program_names::Program;
+use wy_vc_terms::wy_vc_tables::program_names::Program;
 use wy_vc_terms::{Maker, holds, value_formula};
 
 fn is_and_sign(op: Op) -> bool

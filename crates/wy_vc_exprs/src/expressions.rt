@@ -4,7 +4,7 @@ ghost use Rattle.wy_core.specs.CoreSeen.{seen_expr, seen_exprs, seen_fields};
 ghost use Rattle.wy_core.specs.CoreTree.{exprs_of};
 ghost use Rattle.wy_vc_terms.specs.wy_vc_spec.Sizes as sizes;
 ghost use Rattle.wy_vc_exprs.specs.Walking.{WalksFields, calls, field_walks, walk_all_of, walk_of};
-ghost use Rattle.wy_vc_tables.specs.program_names.Described.{IsDescribed};
+ghost use Rattle.wy_vc_terms.specs.wy_vc_tables.program_names.Described.{IsDescribed};
 ghost use Rattle.wy_vc_operations.specs.Growing.{AreBelow};
 ghost use Rattle.wy_vc_exprs.specs.Numbered.{trees_of};
 ghost use Rattle.wy_vc_exprs.specs.Slots.{AreSlots, slots_of};
@@ -22,8 +22,8 @@ use wy_core::{Core, Expr, ExprKind};
 use wy_data::Name;
 use wy_term::NoMemory;
 use wy_vc_operations::put;
-use wy_vc_tables::program_names::Program;
 use wy_vc_terms::is_number;
+use wy_vc_terms::wy_vc_tables::program_names::Program;
 
 // Both are so.
 fn both(first: bool, second: bool) -> bool

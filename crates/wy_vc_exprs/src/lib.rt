@@ -28,4 +28,4 @@ pub use wy_vc_operations::{
     conjunction, denied, disjunction, equal, field, formula, index, put, slot_at, updated,
     updated_field, val_name,
 };
-pub use wy_vc_terms::{Maker, type_formula, variable, word_of};
+pub use wy_vc_terms::{Maker, type_formula, variable, word_of, wy_vc_tables};

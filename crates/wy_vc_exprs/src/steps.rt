@@ -12,7 +12,7 @@ ghost use Rattle.wy_vc_terms.specs.wy_vc_spec.Clauses.{passed};
 ghost use Rattle.wy_vc_terms.specs.wy_vc_spec.Walks.{divisor_goals as goals_of_divisor, free, goals_of, index_goals as goals_of_index, length_goals as goals_of_length, operator_goals, owing, range_goals as goals_of_range, right_hyps};
 ghost use Rattle.wy_core.specs.declared.expressions.Op.TheVariants as ops;
 ghost use Rattle.wy_vc_exprs.specs.Owing.{is_walk, passed_goals, range_hyps, stay_behind};
-ghost use Rattle.wy_vc_tables.specs.program_names.Described.{IsDescribed};
+ghost use Rattle.wy_vc_terms.specs.wy_vc_tables.program_names.Described.{IsDescribed};
 ghost use Rattle.wy_vc_exprs.specs.Slots.{AreSlots, slots_of};
 ghost use Rattle.wy_vc_operations.specs.Growing.{AreBelow};
 ghost use Rattle.wy_vc_exprs.specs.Numbered.{trees_of};
@@ -28,7 +28,7 @@ use wy_vc_operations::{
     at_most, denied, field, formula, index, int, length, less_than, list, negated, null, num,
     number_name, operated, quantified, record, repeated, truth, value_of, whole, with_denial,
 };
-use wy_vc_tables::program_names::Program;
+use wy_vc_terms::wy_vc_tables::program_names::Program;
 use wy_vc_terms::{holds, variable, word_of};
 
 // The result of arithmetic is an `int`.

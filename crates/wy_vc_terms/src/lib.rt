@@ -17,3 +17,4 @@ mod words;
 pub use formulas::{holds, type_formula, value_formula};
 pub use maker::Maker;
 pub use words::{LENGTH_MAX, is_number, k_word, variable, word_of, x_word};
+pub use wy_vc_tables;

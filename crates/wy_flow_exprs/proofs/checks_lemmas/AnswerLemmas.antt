@@ -8,7 +8,7 @@ use Rattle.wy_core.specs.declared.types.Ty.{Ty}
 use Rattle.wy_core.specs.CoreSeen.{seen_ty}
 use Rattle.wy_types.specs.Names.{Declared}
 use Rattle.wy_types.specs.Questions.{IsWideWithin}
-use Rattle.wy_subtype_parts.specs.Fields.{AllHave, IsField, IsWideField, SomeLacks}
+use Rattle.wy_flow_spec.specs.wy_subtype_parts.Fields.{AllHave, IsField, IsWideField, SomeLacks}
 use Rattle.wy_subtype.specs.Known.{WideOnly}
 use Rattle.wy_flow_spec.specs.declared.typing.fault.FlowFault.{FlowFault}
 use Rattle.wy_flow_spec.specs.declared.typing.fault.FlowFault.TheVariants.{NoField, TypeWide, NoMemory}

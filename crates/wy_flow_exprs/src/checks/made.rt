@@ -14,8 +14,8 @@ use wy_core::Ty;
 use wy_data::Name;
 use wy_flow_spec::environment::Shared;
 use wy_flow_spec::typing::FlowFault;
-use wy_subtype_parts::updates::with_field_in;
-use wy_subtype_parts::{element_in, field_in, norm_in};
+use wy_flow_spec::wy_subtype_parts::updates::with_field_in;
+use wy_flow_spec::wy_subtype_parts::{element_in, field_in, norm_in};
 use wy_types::{Names, Question};
 
 fn shared_at(alloc: Global, ty: Ty) -> Result<Shared, FlowFault>

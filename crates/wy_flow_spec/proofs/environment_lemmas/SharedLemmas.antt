@@ -1,12 +1,12 @@
 -- What the crates above prove of these words, each once.
 use Rattle.std.proofs.Common.{◌≡◌, rules, ℕ, List, map, Option}
-use Rattle.wy_core.specs.CoreTree as tree
-use Rattle.wy_core.specs.declared.expressions.Expr as e
-use Rattle.wy_core.specs.declared.statements.Stmt as st
-use Rattle.wy_core.specs.declared.statements.StmtKind as kind
-use Rattle.wy_core.specs.CoreSeen.{seen_expr, seen_stmt, seen_step, seen_exprs, seen_option, seen_ty, seen_block}
-use Rattle.wy_core.specs.declared.statements.Step.{Step}
-use Rattle.wy_core.specs.declared.types.Ty.{Ty}
+use Rattle.wy_subtype_parts.specs.wy_core.CoreTree as tree
+use Rattle.wy_subtype_parts.specs.wy_core.declared.expressions.Expr as e
+use Rattle.wy_subtype_parts.specs.wy_core.declared.statements.Stmt as st
+use Rattle.wy_subtype_parts.specs.wy_core.declared.statements.StmtKind as kind
+use Rattle.wy_subtype_parts.specs.wy_core.CoreSeen.{seen_expr, seen_stmt, seen_step, seen_exprs, seen_option, seen_ty, seen_block}
+use Rattle.wy_subtype_parts.specs.wy_core.declared.statements.Step.{Step}
+use Rattle.wy_subtype_parts.specs.wy_core.declared.types.Ty.{Ty}
 
 pub seen_assert : (x : st.Stmt) (test : e.Expr) → x.kind ≡ kind.Assert test → seen_stmt x ≡ tree.AssertStmt x.at (seen_expr test)
 seen_assert x test is = search (rules, st.the_lemmas)

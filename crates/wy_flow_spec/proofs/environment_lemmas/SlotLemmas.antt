@@ -1,7 +1,7 @@
 -- Empty slots are put one behind the other until the variable's is there.
 use Rattle.std.proofs.Common.{◌≡◌, ◌≤◌, ◌<◌, ℕ, zero, suc, List, [], ◌∷◌, ◌++◌, Option, Some, None, length, slice_set, refl, ap, arith}
-use Rattle.wy_core.specs.declared.types.Ty.{Ty}
-use Rattle.wy_core.specs.CoreSeen.{seen_ty}
+use Rattle.wy_subtype_parts.specs.wy_core.declared.types.Ty.{Ty}
+use Rattle.wy_subtype_parts.specs.wy_core.CoreSeen.{seen_ty}
 use Rattle.wy_flow_spec.specs.environment.Slots.{put_slot}
 use Rattle.wy_flow_spec.specs.environment.Seen.{seen_slot, seen_slots}
 

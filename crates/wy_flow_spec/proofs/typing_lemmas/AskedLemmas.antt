@@ -1,12 +1,12 @@
 -- Each question has one answer.
 use Rattle.std.proofs.Common.{◌≡◌, ◌∙◌, inl, inr, ℕ, List, [], ◌∷◌, Bool, true, false, refl, ap, sym, subst}
-use Rattle.wy_core.specs.Types.{Ty, NormalTy, IntTy, BoolTy, AnyTy, ArrayTy}
-use Rattle.wy_types.specs.declared.conjuncts.Part.{Part}
-use Rattle.wy_types.specs.declared.conjuncts.Conjunct.{Conjunct}
-use Rattle.wy_types.specs.declared.table.Table.{Table}
-use Rattle.wy_types.specs.Names.{Declared}
-use Rattle.wy_types.specs.Questions.{numbered}
-use Rattle.wy_types.specs.Reading.{ty_at, conjuncts_at}
+use Rattle.wy_subtype_parts.specs.wy_core.Types.{Ty, NormalTy, IntTy, BoolTy, AnyTy, ArrayTy}
+use Rattle.wy_subtype_parts.specs.wy_types.declared.conjuncts.Part.{Part}
+use Rattle.wy_subtype_parts.specs.wy_types.declared.conjuncts.Conjunct.{Conjunct}
+use Rattle.wy_subtype_parts.specs.wy_types.declared.table.Table.{Table}
+use Rattle.wy_subtype_parts.specs.wy_types.Names.{Declared}
+use Rattle.wy_subtype_parts.specs.wy_types.Questions.{numbered}
+use Rattle.wy_subtype_parts.specs.wy_types.Reading.{ty_at, conjuncts_at}
 use Rattle.wy_subtype_parts.specs.wy_subtype.declared.valued.Inhabited.{Inhabited}
 use Rattle.wy_subtype_parts.specs.wy_subtype.Valued.{AreValued, AreInhabited, AreThose, all_ways}
 use Rattle.wy_subtype_parts.specs.Norms.{IsNorm, all_of}

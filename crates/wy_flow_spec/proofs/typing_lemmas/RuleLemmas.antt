@@ -1,11 +1,11 @@
 -- Each rule leads to one outcome.
 use Rattle.std.proofs.Common.{◌∙◌, inl, inr, ℕ, List, [], ◌∷◌, ◌++◌, Option, Some, None, true, slice_get, sym}
-use Rattle.wy_core.specs.Types.{Ty, UnionTy, InterTy, NotTy, ArrayTy, RecordTy}
-use Rattle.wy_core.specs.CoreTree.{Expr, NullExpr, BoolExpr, IntExpr, VarExpr, CallExpr, NegExpr, NotExpr, LenExpr, BinaryExpr, IsExpr, IndexExpr, FieldExpr, ListExpr, RepeatExpr, RecordExpr, QuantExpr}
-use Rattle.wy_core.specs.CoreSeen.{field_tys_of}
-use Rattle.wy_core.specs.declared.expressions.Op.{Op}
-use Rattle.wy_core.specs.declared.expressions.Op.TheVariants as op
-use Rattle.wy_types.specs.Names.{Declared}
+use Rattle.wy_subtype_parts.specs.wy_core.Types.{Ty, UnionTy, InterTy, NotTy, ArrayTy, RecordTy}
+use Rattle.wy_subtype_parts.specs.wy_core.CoreTree.{Expr, NullExpr, BoolExpr, IntExpr, VarExpr, CallExpr, NegExpr, NotExpr, LenExpr, BinaryExpr, IsExpr, IndexExpr, FieldExpr, ListExpr, RepeatExpr, RecordExpr, QuantExpr}
+use Rattle.wy_subtype_parts.specs.wy_core.CoreSeen.{field_tys_of}
+use Rattle.wy_subtype_parts.specs.wy_core.declared.expressions.Op.{Op}
+use Rattle.wy_subtype_parts.specs.wy_core.declared.expressions.Op.TheVariants as op
+use Rattle.wy_subtype_parts.specs.wy_types.Names.{Declared}
 use Rattle.wy_flow_spec.specs.environment.Variables.{Environment, Changes, bool_type, int_type, void_type, type_of}
 use Rattle.wy_flow_spec.specs.declared.typing.fault.FlowFault.TheVariants.{NotSubtype}
 use Rattle.wy_flow_spec.specs.typing.Joins.{JoinedType, JoinedSlot, JoinedSlots, Joined}

@@ -1,8 +1,8 @@
 -- Environments of a program as plain data.
 use Rattle.std.specs.Prelude.{ℕ, List, map, Option, Some, None}
-use Rattle.wy_core.specs.Types as ty
-use Rattle.wy_core.specs.declared.types.Ty.{Ty}
-use Rattle.wy_core.specs.CoreSeen.{seen_ty}
+use Rattle.wy_subtype_parts.specs.wy_core.Types as ty
+use Rattle.wy_subtype_parts.specs.wy_core.declared.types.Ty.{Ty}
+use Rattle.wy_subtype_parts.specs.wy_core.CoreSeen.{seen_ty}
 use Rattle.wy_flow_spec.specs.environment.Variables as variables
 use Rattle.wy_flow_spec.specs.declared.environment.environment.Environment.{Environment}
 

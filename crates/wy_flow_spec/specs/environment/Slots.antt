@@ -1,6 +1,6 @@
 -- A type for each variable that has one, by the variables' numbers.
 use Rattle.std.specs.Prelude.{ℕ, zero, suc, List, [], ◌∷◌, Option, Some, None, slice_get}
-use Rattle.wy_core.specs.Types.{Ty}
+use Rattle.wy_subtype_parts.specs.wy_core.Types.{Ty}
 
 -- what stands at the number
 abbrev pub or_none : Option (Option Ty) → Option Ty

@@ -1,6 +1,6 @@
 -- The types of variables at a point of a program.
 use Rattle.std.specs.Prelude.{ℕ, Bool, true, false, ◌==◌, cond, List, [], ◌∷◌, Option, Some, None}
-use Rattle.wy_core.specs.Types.{Ty, NormalTy, NoConjuncts, MoreConjuncts, Atom, NullAtom, BoolAtom, IntAtom, NoAtoms}
+use Rattle.wy_subtype_parts.specs.wy_core.Types.{Ty, NormalTy, NoConjuncts, MoreConjuncts, Atom, NullAtom, BoolAtom, IntAtom, NoAtoms}
 use Rattle.wy_flow_spec.specs.environment.Slots.{slot_at, put_slot}
 
 -- the normal type of one atom

@@ -1,9 +1,9 @@
 -- Questions of a node at a place: where one is wide, `TypeWide` stands there; where a check fails, the fault of the check.
 use Rattle.std.specs.Prelude.{◌≡◌, ◌⊎◌, ℕ, List, true, false}
 use Rattle.wy_subtype_parts.specs.wy_value.Datum.{Datum}
-use Rattle.wy_core.specs.Types.{Ty, IntTy, BoolTy, AnyTy, ArrayTy}
-use Rattle.wy_types.specs.Names.{Declared, Up}
-use Rattle.wy_types.specs.Questions.{IsWideAbout, IsWideWithin}
+use Rattle.wy_subtype_parts.specs.wy_core.Types.{Ty, IntTy, BoolTy, AnyTy, ArrayTy}
+use Rattle.wy_subtype_parts.specs.wy_types.Names.{Declared, Up}
+use Rattle.wy_subtype_parts.specs.wy_types.Questions.{IsWideAbout, IsWideWithin}
 use Rattle.wy_subtype_parts.specs.Norms.{IsNorm}
 use Rattle.wy_subtype_parts.specs.Items.{IsElement, IsWideElement}
 use Rattle.wy_subtype_parts.specs.Fields.{AllHave, IsField, IsWideField, SomeLacks}

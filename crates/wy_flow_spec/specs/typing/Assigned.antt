@@ -1,6 +1,6 @@
 -- The variables that statements assign, whole or in part.
 use Rattle.std.specs.Prelude.{ℕ, List}
-use Rattle.wy_core.specs.CoreTree.{Stmt, DeclareStmt, AssignStmt, CallStmt, ReturnStmt, AssertStmt, BreakStmt, ContinueStmt, SkipStmt, FailStmt, IfStmt, WhileStmt, Stmts, NoStmts, MoreStmts}
+use Rattle.wy_subtype_parts.specs.wy_core.CoreTree.{Stmt, DeclareStmt, AssignStmt, CallStmt, ReturnStmt, AssertStmt, BreakStmt, ContinueStmt, SkipStmt, FailStmt, IfStmt, WhileStmt, Stmts, NoStmts, MoreStmts}
 use Rattle.wy_flow_spec.specs.typing.Narrowing.{with_variable}
 
 abbrev mutual

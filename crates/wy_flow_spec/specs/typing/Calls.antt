@@ -1,7 +1,7 @@
 -- Calls.
 use Rattle.std.specs.Prelude.{ℕ, List, [], ◌∷◌, Option, Some, None, slice_get}
-use Rattle.wy_core.specs.Types.{Ty}
-use Rattle.wy_types.specs.Names.{Declared}
+use Rattle.wy_subtype_parts.specs.wy_core.Types.{Ty}
+use Rattle.wy_subtype_parts.specs.wy_types.Names.{Declared}
 use Rattle.wy_flow_spec.specs.environment.Variables.{void_type}
 use Rattle.wy_flow_spec.specs.declared.typing.fault.FlowFault.TheVariants.{NotSubtype}
 use Rattle.wy_flow_spec.specs.typing.Outcomes.{Outcome, Give, Then}

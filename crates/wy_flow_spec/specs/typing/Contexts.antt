@@ -1,7 +1,7 @@
 -- What the walk knows at an expression, and what the expression leads to.
 use Rattle.std.specs.Prelude.{ℕ, List, Option}
-use Rattle.wy_core.specs.Types.{Ty}
-use Rattle.wy_types.specs.Names.{Declared}
+use Rattle.wy_subtype_parts.specs.wy_core.Types.{Ty}
+use Rattle.wy_subtype_parts.specs.wy_types.Names.{Declared}
 use Rattle.wy_flow_spec.specs.environment.Variables.{Changes}
 
 -- what a call must meet, and the type of its result where it has one

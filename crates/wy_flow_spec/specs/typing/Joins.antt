@@ -1,7 +1,7 @@
 -- Where two paths meet: each variable has the union of its types, and one that has no type on either path has none.
 use Rattle.std.specs.Prelude.{◌≡◌, ◌≢◌, ◌⊎◌, ℕ, true, cond, List, [], ◌∷◌, ◌++◌, Option, Some, None}
-use Rattle.wy_core.specs.Types.{Ty, UnionTy}
-use Rattle.wy_types.specs.Names.{Declared}
+use Rattle.wy_subtype_parts.specs.wy_core.Types.{Ty, UnionTy}
+use Rattle.wy_subtype_parts.specs.wy_types.Names.{Declared}
 use Rattle.wy_flow_spec.specs.environment.Variables.{Environment}
 use Rattle.wy_flow_spec.specs.typing.Outcomes.{Outcome, Give, Then}
 use Rattle.wy_flow_spec.specs.typing.Asked.{Norm}

@@ -1,6 +1,6 @@
 -- Expressions without parts, and the end of every expression: its type is put behind those so far.
 use Rattle.std.specs.Prelude.{List, [], ◌∷◌, ◌++◌}
-use Rattle.wy_core.specs.Types.{Ty}
+use Rattle.wy_subtype_parts.specs.wy_core.Types.{Ty}
 use Rattle.wy_flow_spec.specs.environment.Variables.{Changes, bool_type, int_type}
 use Rattle.wy_flow_spec.specs.typing.Outcomes.{Outcome, Give}
 use Rattle.wy_flow_spec.specs.typing.Contexts.{Found}

@@ -1,9 +1,9 @@
 -- The heads and the ends of loops.
 use Rattle.std.specs.Prelude.{ℕ, cond, List, [], ◌∷◌, Option, Some, None}
-use Rattle.wy_core.specs.Types.{Ty}
-use Rattle.wy_core.specs.CoreTree.{Expr, Stmts}
+use Rattle.wy_subtype_parts.specs.wy_core.Types.{Ty}
+use Rattle.wy_subtype_parts.specs.wy_core.CoreTree.{Expr, Stmts}
 use Rattle.wy_flow_spec.specs.typing.Places.{place_of}
-use Rattle.wy_types.specs.Names.{Declared}
+use Rattle.wy_subtype_parts.specs.wy_types.Names.{Declared}
 use Rattle.wy_flow_spec.specs.environment.Slots.{slot_at}
 use Rattle.wy_flow_spec.specs.environment.Variables.{Environment, given, changed}
 use Rattle.wy_flow_spec.specs.typing.Outcomes.{Outcome, Give, Then}

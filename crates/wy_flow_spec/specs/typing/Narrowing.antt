@@ -1,8 +1,8 @@
 -- Changes of variables by tests. Only a variable that is itself tested by `is` is changed.
 use Rattle.std.specs.Prelude.{ℕ, Bool, false, ◌==◌, ◌||◌, cond, List, [], ◌∷◌, ◌++◌}
-use Rattle.wy_core.specs.Types.{Ty, InterTy, NotTy}
-use Rattle.wy_core.specs.CoreTree.{Expr, NullExpr, BoolExpr, IntExpr, VarExpr, CallExpr, NegExpr, NotExpr, LenExpr, BinaryExpr, IsExpr, IndexExpr, FieldExpr, ListExpr, RepeatExpr, RecordExpr, QuantExpr}
-use Rattle.wy_types.specs.Names.{Declared}
+use Rattle.wy_subtype_parts.specs.wy_core.Types.{Ty, InterTy, NotTy}
+use Rattle.wy_subtype_parts.specs.wy_core.CoreTree.{Expr, NullExpr, BoolExpr, IntExpr, VarExpr, CallExpr, NegExpr, NotExpr, LenExpr, BinaryExpr, IsExpr, IndexExpr, FieldExpr, ListExpr, RepeatExpr, RecordExpr, QuantExpr}
+use Rattle.wy_subtype_parts.specs.wy_types.Names.{Declared}
 use Rattle.wy_flow_spec.specs.environment.Variables.{Environment, Changes, type_of}
 use Rattle.wy_flow_spec.specs.typing.Outcomes.{Outcome, Give, Then}
 use Rattle.wy_flow_spec.specs.typing.Asked.{Norm}

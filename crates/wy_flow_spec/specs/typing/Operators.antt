@@ -1,9 +1,9 @@
 -- Operators. What was found of the operands stands first, then the checks of the node, then its type.
 use Rattle.std.specs.Prelude.{ℕ, List, [], ◌++◌}
-use Rattle.wy_core.specs.Types.{Ty}
-use Rattle.wy_core.specs.declared.expressions.Op.{Op}
-use Rattle.wy_core.specs.declared.expressions.Op.TheVariants as op
-use Rattle.wy_types.specs.Names.{Declared}
+use Rattle.wy_subtype_parts.specs.wy_core.Types.{Ty}
+use Rattle.wy_subtype_parts.specs.wy_core.declared.expressions.Op.{Op}
+use Rattle.wy_subtype_parts.specs.wy_core.declared.expressions.Op.TheVariants as op
+use Rattle.wy_subtype_parts.specs.wy_types.Names.{Declared}
 use Rattle.wy_flow_spec.specs.environment.Variables.{Environment, Changes}
 use Rattle.wy_flow_spec.specs.typing.Outcomes.{Outcome, Then}
 use Rattle.wy_flow_spec.specs.typing.Asked.{IsInt, IsBool, IsArray}

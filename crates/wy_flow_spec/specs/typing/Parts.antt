@@ -1,8 +1,8 @@
 -- Arrays, records and quantifiers.
 use Rattle.std.specs.Prelude.{ℕ, List, [], ◌∷◌}
-use Rattle.wy_core.specs.Types.{Ty, VoidTy, ArrayTy, UnionTy, RecordTy}
-use Rattle.wy_core.specs.CoreSeen.{field_tys_of}
-use Rattle.wy_types.specs.Names.{Declared}
+use Rattle.wy_subtype_parts.specs.wy_core.Types.{Ty, VoidTy, ArrayTy, UnionTy, RecordTy}
+use Rattle.wy_subtype_parts.specs.wy_core.CoreSeen.{field_tys_of}
+use Rattle.wy_subtype_parts.specs.wy_types.Names.{Declared}
 use Rattle.wy_flow_spec.specs.typing.Outcomes.{Outcome, Then}
 use Rattle.wy_flow_spec.specs.typing.Asked.{IsInt, IsBool, IsArray, Norm, Element, Field}
 use Rattle.wy_flow_spec.specs.typing.Contexts.{Found, FoundAll, FoundFields}

@@ -1,8 +1,8 @@
 -- Updates of parts of a variable. Each step of the path is a node of its own, at its `[` or dot.
 use Rattle.std.specs.Prelude.{ℕ, List, [], ◌∷◌, ◌++◌}
-use Rattle.wy_core.specs.Types.{Ty, ArrayTy, UnionTy}
-use Rattle.wy_core.specs.CoreTree.{Step, IndexStep, FieldStep}
-use Rattle.wy_types.specs.Names.{Declared}
+use Rattle.wy_subtype_parts.specs.wy_core.Types.{Ty, ArrayTy, UnionTy}
+use Rattle.wy_subtype_parts.specs.wy_core.CoreTree.{Step, IndexStep, FieldStep}
+use Rattle.wy_subtype_parts.specs.wy_types.Names.{Declared}
 use Rattle.wy_flow_spec.specs.environment.Variables.{Environment}
 use Rattle.wy_flow_spec.specs.typing.Outcomes.{Outcome, Give, Then}
 use Rattle.wy_flow_spec.specs.typing.Asked.{Field, WithField}

@@ -1,9 +1,9 @@
 -- The walk through the declarations, in the order of the source.
 use Rattle.std.specs.Prelude.{ℕ, List, [], ◌∷◌, ◌++◌, Option, Some, None}
-use Rattle.wy_core.specs.Types.{Ty, ArrayTy, IntTy}
-use Rattle.wy_core.specs.CoreTree as tree
-use Rattle.wy_core.specs.CoreTree.{Decl, AliasDecl, RoutineDecl, Core, routines_of}
-use Rattle.wy_types.specs.Names.{Declared, names_in}
+use Rattle.wy_subtype_parts.specs.wy_core.Types.{Ty, ArrayTy, IntTy}
+use Rattle.wy_subtype_parts.specs.wy_core.CoreTree as tree
+use Rattle.wy_subtype_parts.specs.wy_core.CoreTree.{Decl, AliasDecl, RoutineDecl, Core, routines_of}
+use Rattle.wy_subtype_parts.specs.wy_types.Names.{Declared, names_in}
 use Rattle.wy_flow_spec.specs.environment.Slots.{put_slot}
 use Rattle.wy_flow_spec.specs.environment.Variables.{Environment, nothing_known, given}
 use Rattle.wy_flow_spec.specs.typing.Outcomes.{Outcome, Gives, Give, Then}

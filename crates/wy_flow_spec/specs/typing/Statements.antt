@@ -1,8 +1,8 @@
 -- The walk through a body.
 use Rattle.std.specs.Prelude.{ℕ, List, [], ◌∷◌, Option, Some, None}
-use Rattle.wy_core.specs.Types.{Ty}
-use Rattle.wy_core.specs.CoreTree.{Expr, Exprs, Step, Stmt, DeclareStmt, AssignStmt, CallStmt, ReturnStmt, AssertStmt, BreakStmt, ContinueStmt, SkipStmt, FailStmt, IfStmt, WhileStmt, Stmts, NoStmts, MoreStmts}
-use Rattle.wy_types.specs.Names.{Declared}
+use Rattle.wy_subtype_parts.specs.wy_core.Types.{Ty}
+use Rattle.wy_subtype_parts.specs.wy_core.CoreTree.{Expr, Exprs, Step, Stmt, DeclareStmt, AssignStmt, CallStmt, ReturnStmt, AssertStmt, BreakStmt, ContinueStmt, SkipStmt, FailStmt, IfStmt, WhileStmt, Stmts, NoStmts, MoreStmts}
+use Rattle.wy_subtype_parts.specs.wy_types.Names.{Declared}
 use Rattle.wy_flow_spec.specs.environment.Slots.{slot_at}
 use Rattle.wy_flow_spec.specs.environment.Variables.{Environment, changed, type_of}
 use Rattle.wy_flow_spec.specs.typing.Outcomes.{Outcome, Give, Then}

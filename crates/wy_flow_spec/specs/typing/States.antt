@@ -1,8 +1,8 @@
 -- What is known at a point of a body.
 use Rattle.std.specs.Prelude.{ℕ, cond, List, [], ◌∷◌, ◌++◌, Option}
-use Rattle.wy_core.specs.Types.{Ty, InterTy}
-use Rattle.wy_core.specs.CoreTree.{Expr}
-use Rattle.wy_types.specs.Names.{Declared}
+use Rattle.wy_subtype_parts.specs.wy_core.Types.{Ty, InterTy}
+use Rattle.wy_subtype_parts.specs.wy_core.CoreTree.{Expr}
+use Rattle.wy_subtype_parts.specs.wy_types.Names.{Declared}
 use Rattle.wy_flow_spec.specs.environment.Slots.{put_slot}
 use Rattle.wy_flow_spec.specs.environment.Variables.{Environment, unreached, given}
 use Rattle.wy_flow_spec.specs.declared.typing.fault.FlowFault.TheVariants.{NotSubtype}

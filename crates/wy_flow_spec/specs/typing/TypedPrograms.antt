@@ -1,12 +1,12 @@
 -- What a well-typed program consists of.
 use Rattle.std.specs.Prelude.{◌≡◌, ℕ, List, map}
-use Rattle.wy_core.specs.Types as ty
-use Rattle.wy_core.specs.CoreTree as tree
-use Rattle.wy_core.specs.CoreSeen.{seen_core, seen_ty}
-use Rattle.wy_core.specs.declared.declarations.Core.{Core}
-use Rattle.wy_core.specs.declared.types.Ty.{Ty}
-use Rattle.wy_types.specs.declared.names.Names.{Names}
-use Rattle.wy_types.specs.Names.{Declared, names_in, types_of}
+use Rattle.wy_subtype_parts.specs.wy_core.Types as ty
+use Rattle.wy_subtype_parts.specs.wy_core.CoreTree as tree
+use Rattle.wy_subtype_parts.specs.wy_core.CoreSeen.{seen_core, seen_ty}
+use Rattle.wy_subtype_parts.specs.wy_core.declared.declarations.Core.{Core}
+use Rattle.wy_subtype_parts.specs.wy_core.declared.types.Ty.{Ty}
+use Rattle.wy_subtype_parts.specs.wy_types.declared.names.Names.{Names}
+use Rattle.wy_subtype_parts.specs.wy_types.Names.{Declared, names_in, types_of}
 use Rattle.wy_flow_spec.specs.typing.Programs.{IsTyped}
 
 -- a program, its declared types and the types of its expressions

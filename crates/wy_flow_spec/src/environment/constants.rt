@@ -1,13 +1,13 @@
 //! The normal types that literals and operators have.
 ghost use Rattle.std.specs.Prelude.{◌≡◌, IfOk, map};
-ghost use Rattle.wy_core.specs.CoreSeen.{conjuncts_of, seen_atom, seen_conjunct, seen_ty};
-ghost use Rattle.wy_core.specs.Types.{NoAtoms, NormalTy};
+ghost use Rattle.wy_subtype_parts.specs.wy_core.CoreSeen.{conjuncts_of, seen_atom, seen_conjunct, seen_ty};
+ghost use Rattle.wy_subtype_parts.specs.wy_core.Types.{NoAtoms, NormalTy};
 ghost use Rattle.wy_flow_spec.specs.environment.Variables as spec;
 
 use crate::environment::shared::Shared;
 use std::alloc::{AllocError, Global};
-use wy_core::{Atom, Conjunct, Ty, TyKind};
 use wy_items::Items;
+use wy_subtype_parts::wy_core::{Atom, Conjunct, Ty, TyKind};
 
 fn normal(at: u32, conjuncts: Items<Conjunct>) -> Ty
     ensures value { seen_ty result ≡ NormalTy (conjuncts_of (map seen_conjunct conjuncts)) }

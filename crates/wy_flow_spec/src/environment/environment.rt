@@ -1,6 +1,6 @@
 //! The types of variables at a point of a program.
 ghost use Rattle.std.specs.Prelude.{◌≡◌, IfOk, OnOk};
-ghost use Rattle.wy_core.specs.CoreSeen.{seen_ty};
+ghost use Rattle.wy_subtype_parts.specs.wy_core.CoreSeen.{seen_ty};
 ghost use Rattle.wy_flow_spec.specs.environment.Seen.{seen_change, seen_changes, seen_environment, seen_slot, seen_slots};
 ghost use Rattle.wy_flow_spec.specs.environment.Variables as spec;
 

@@ -4,7 +4,7 @@ ghost use Rattle.std.specs.Prelude.{◌≡◌, IfOk};
 use std::alloc::{AllocError, Global};
 use std::marker::Model;
 use std::rc::Rc;
-use wy_core::Ty;
+use wy_subtype_parts::wy_core::Ty;
 
 /// A type that several variables and expressions have. A clause sees the type.
 #[derive(Drop)]
@@ -14,8 +14,8 @@ pub struct Shared {
 
 impl Model for Shared {
     ghost use Rattle.std.specs.Coded.{codes};
-    ghost use Rattle.wy_core.specs.declared.types.Ty.{Ty};
-    ghost use Rattle.wy_core.specs.contracts.types.Ty as types;
+    ghost use Rattle.wy_subtype_parts.specs.wy_core.declared.types.Ty.{Ty};
+    ghost use Rattle.wy_subtype_parts.specs.wy_core.contracts.types.Ty as types;
 
     ghost Value = { Ty };
 

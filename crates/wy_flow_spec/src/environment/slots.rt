@@ -1,6 +1,6 @@
 //! A type for each variable that has one.
 ghost use Rattle.std.specs.Prelude.{◌≡◌, IfOk, OnOk, slice_get};
-ghost use Rattle.wy_core.specs.CoreSeen.{seen_ty};
+ghost use Rattle.wy_subtype_parts.specs.wy_core.CoreSeen.{seen_ty};
 ghost use Rattle.wy_flow_spec.specs.environment.Slots as spec;
 ghost use Rattle.wy_flow_spec.specs.environment.Seen.{seen_slot, seen_slots};
 

@@ -1,7 +1,7 @@
 //! A law of the definition.
 ghost use Rattle.std.specs.Prelude.{◌≡◌, ℕ, List};
-ghost use Rattle.wy_core.specs.CoreTree.{Core};
-ghost use Rattle.wy_core.specs.Types.{Ty};
+ghost use Rattle.wy_subtype_parts.specs.wy_core.CoreTree.{Core};
+ghost use Rattle.wy_subtype_parts.specs.wy_core.Types.{Ty};
 ghost use Rattle.wy_flow_spec.specs.typing.Outcomes.{Outcome};
 ghost use Rattle.wy_flow_spec.specs.typing.Programs.{CoreTyped};
 

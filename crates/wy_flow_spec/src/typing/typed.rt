@@ -1,15 +1,15 @@
 //! A program that is well typed.
 ghost use Rattle.std.specs.Prelude.{◌≡◌, ◌<◌, map, length, slice_get, Some};
-ghost use Rattle.wy_core.specs.CoreSeen.{seen_core, seen_ty};
-ghost use Rattle.wy_types.specs.Names.{names_in, types_of};
+ghost use Rattle.wy_subtype_parts.specs.wy_core.CoreSeen.{seen_core, seen_ty};
+ghost use Rattle.wy_subtype_parts.specs.wy_types.Names.{names_in, types_of};
 ghost use Rattle.wy_flow_spec.specs.typing.Programs.{IsTyped};
 ghost use Rattle.wy_flow_spec.specs.typing.TypedPrograms.{core_of, flow_of, names_of};
 
 use crate::environment::Shared;
 use std::marker::Model;
-use wy_core::{Core, Ty};
 use wy_items::Items;
-use wy_types::Names;
+use wy_subtype_parts::wy_core::{Core, Ty};
+use wy_subtype_parts::wy_types::Names;
 
 /// A program with the flow type of each expression. It is well typed, and these are its types.
 #[derive(Drop)]
@@ -21,9 +21,9 @@ pub struct Typed {
 
 impl Model for Typed {
     ghost use Rattle.std.specs.Coded.{codes};
-    ghost use Rattle.wy_core.specs.contracts.declarations.Core as cores;
-    ghost use Rattle.wy_core.specs.contracts.types.Ty as tys;
-    ghost use Rattle.wy_types.specs.contracts.names.Names as tables;
+    ghost use Rattle.wy_subtype_parts.specs.wy_core.contracts.declarations.Core as cores;
+    ghost use Rattle.wy_subtype_parts.specs.wy_core.contracts.types.Ty as tys;
+    ghost use Rattle.wy_subtype_parts.specs.wy_types.contracts.names.Names as tables;
     ghost use Rattle.wy_flow_spec.specs.typing.TypedPrograms.{IsWhole, Triple};
 
     ghost Value = { Triple };

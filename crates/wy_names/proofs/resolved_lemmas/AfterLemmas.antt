@@ -4,10 +4,10 @@ use Rattle.std.specs.List.{slice_get}
 use Rattle.std.specs.Prelude.{slice_set}
 use Rattle.std.proofs.Math.Dec.{eqb}
 use Rattle.std.proofs.lemmas.Bool.Decides.{eqb_tells}
-use Rattle.wy_names_expand.specs.declared.measure.Measure.{Measure}
-use Rattle.wy_names_expand.specs.declared.measure.Spot.{Spot}
-use Rattle.wy_names_expand.specs.declared.measure.Use.{Use}
-use Rattle.wy_names_expand.specs.Measures.{plus, times, inside, quantified, argument, reached, counted, counted_many, with_call, called, one_more, use_set, with_use, used}
+use Rattle.wy_names_lower.specs.wy_names_expand.declared.measure.Measure.{Measure}
+use Rattle.wy_names_lower.specs.wy_names_expand.declared.measure.Spot.{Spot}
+use Rattle.wy_names_lower.specs.wy_names_expand.declared.measure.Use.{Use}
+use Rattle.wy_names_lower.specs.wy_names_expand.Measures.{plus, times, inside, quantified, argument, reached, counted, counted_many, with_call, called, one_more, use_set, with_use, used}
 use Rattle.wy_lemmas.proofs.Choices.{or_left as first_true, or_right as second_true}
 use Rattle.wy_names.proofs.resolved_lemmas.NearLemmas.{Near, near, near_on, near_plus, near_times, near_sum, near_max, near_product, raised, off, off_max, off_inside, over_root, near_raised, raised_twice, raised_not, raised_none, raised_some}
 use Rattle.wy_names.proofs.resolved_lemmas.ContentLemmas.{Usage, up, unused, both_uses, around, quantified_use, Content, one_use, empty, beside, one_node, one_quant, lift, use_put, put, Sound, same_use}

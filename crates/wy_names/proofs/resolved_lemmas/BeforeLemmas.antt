@@ -10,10 +10,10 @@ use Rattle.wy_names_scope.specs.Scope.{Scope, has, with_name}
 use Rattle.wy_names_recursion.specs.declared.context.Context.{Context}
 use Rattle.wy_names_recursion.specs.TypeNames.{just_a_name}
 use Rattle.wy_names_recursion.specs.ExprNames as bind
-use Rattle.wy_names_expand.specs.declared.measure.Measure.{Measure}
-use Rattle.wy_names_expand.specs.declared.measure.Spot.{Spot}
-use Rattle.wy_names_expand.specs.Measures.{inside, counted}
-use Rattle.wy_names_expand.specs.Sizes.{Known, arg_spot, in_ty, in_field_tys, in_expr, in_exprs, in_args, in_fields, in_ranges}
+use Rattle.wy_names_lower.specs.wy_names_expand.declared.measure.Measure.{Measure}
+use Rattle.wy_names_lower.specs.wy_names_expand.declared.measure.Spot.{Spot}
+use Rattle.wy_names_lower.specs.wy_names_expand.Measures.{inside, counted}
+use Rattle.wy_names_lower.specs.wy_names_expand.Sizes.{Known, arg_spot, in_ty, in_field_tys, in_expr, in_exprs, in_args, in_fields, in_ranges}
 use Rattle.wy_names.proofs.resolved_lemmas.NotedLemmas.{noted_none}
 use Rattle.wy_names.proofs.resolved_lemmas.BindLemmas as names
 use Rattle.wy_names.proofs.resolved_lemmas.ExpandLemmas.{before_expr}

@@ -21,7 +21,7 @@ use Rattle.wy_names_recursion.specs.ExprNames as exprs
 use Rattle.wy_names_recursion.specs.StmtNames as stmts
 use Rattle.wy_names_recursion.specs.DeclNames as bind
 use Rattle.wy_names_recursion.specs.DeclNames.{clause_context, routine_context}
-use Rattle.wy_names_expand.specs.declared.measure.Expansion.{Expansion}
+use Rattle.wy_names_lower.specs.wy_names_expand.declared.measure.Expansion.{Expansion}
 use Rattle.wy_names_lower.specs.Variables.{Variables, named}
 use Rattle.wy_names_lower.specs.Variables as variables
 use Rattle.wy_names_lower.specs.Uses.{Template}

@@ -22,12 +22,12 @@ use Rattle.wy_names_recursion.specs.Calls.{contract, call}
 use Rattle.wy_names_recursion.specs.TypeNames.{just_a_name}
 use Rattle.wy_names_recursion.specs.ExprNames as bind
 use Rattle.wy_names_recursion.specs.ExprNames.{count_of}
-use Rattle.wy_names_expand.specs.declared.measure.Measure.{Measure}
-use Rattle.wy_names_expand.specs.declared.measure.Spot.{Spot}
-use Rattle.wy_names_expand.specs.declared.measure.Use.{Use}
-use Rattle.wy_names_expand.specs.Measures.{first_of, inside, argument, counted, with_call, called}
-use Rattle.wy_names_expand.specs.Sizes as sizes
-use Rattle.wy_names_expand.specs.Sizes.{Known, arg_spot, operator, left_of, right_of}
+use Rattle.wy_names_lower.specs.wy_names_expand.declared.measure.Measure.{Measure}
+use Rattle.wy_names_lower.specs.wy_names_expand.declared.measure.Spot.{Spot}
+use Rattle.wy_names_lower.specs.wy_names_expand.declared.measure.Use.{Use}
+use Rattle.wy_names_lower.specs.wy_names_expand.Measures.{first_of, inside, argument, counted, with_call, called}
+use Rattle.wy_names_lower.specs.wy_names_expand.Sizes as sizes
+use Rattle.wy_names_lower.specs.wy_names_expand.Sizes.{Known, arg_spot, operator, left_of, right_of}
 use Rattle.wy_names_lower.specs.Variables.{Variables}
 use Rattle.wy_names_lower.specs.Uses.{With, Template, is_used}
 use Rattle.wy_names_lower.specs.Uses as uses

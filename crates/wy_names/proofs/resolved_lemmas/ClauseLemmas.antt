@@ -8,13 +8,13 @@ use Rattle.wy_names_scope.specs.Scope.{Scope}
 use Rattle.wy_names_scope.specs.Faults.{Found}
 use Rattle.wy_names_recursion.specs.declared.context.Context.{Context}
 use Rattle.wy_names_recursion.specs.ExprNames as bind
-use Rattle.wy_names_expand.specs.declared.measure.Measure.{Measure}
-use Rattle.wy_names_expand.specs.declared.measure.Spot.{Spot}
-use Rattle.wy_names_expand.specs.declared.measure.Use.{Use}
-use Rattle.wy_names_expand.specs.Measures.{plus, nothing, root, deeper, inside, counted}
-use Rattle.wy_names_expand.specs.Sizes as sizes
-use Rattle.wy_names_expand.specs.Sizes.{Known}
-use Rattle.wy_names_expand.specs.Summaries.{no_uses, in_joined}
+use Rattle.wy_names_lower.specs.wy_names_expand.declared.measure.Measure.{Measure}
+use Rattle.wy_names_lower.specs.wy_names_expand.declared.measure.Spot.{Spot}
+use Rattle.wy_names_lower.specs.wy_names_expand.declared.measure.Use.{Use}
+use Rattle.wy_names_lower.specs.wy_names_expand.Measures.{plus, nothing, root, deeper, inside, counted}
+use Rattle.wy_names_lower.specs.wy_names_expand.Sizes as sizes
+use Rattle.wy_names_lower.specs.wy_names_expand.Sizes.{Known}
+use Rattle.wy_names_lower.specs.wy_names_expand.Summaries.{no_uses, in_joined}
 use Rattle.wy_names_lower.specs.Variables.{Variables}
 use Rattle.wy_names_lower.specs.Uses.{With, Template}
 use Rattle.wy_names_lower.specs.ExprsLowered as lower

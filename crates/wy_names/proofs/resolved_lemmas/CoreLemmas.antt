@@ -3,7 +3,7 @@ use Rattle.std.proofs.Common.{◌≡◌, ◌∙◌, ℕ, List, sym, ap}
 use Rattle.wy_ast.specs.SurfaceTree.{Decl}
 use Rattle.wy_core.specs.CoreSeen.{seen_core}
 use Rattle.wy_core.specs.declared.declarations.Core.{Core}
-use Rattle.wy_names_expand.specs.declared.measure.Expansion.{Expansion}
+use Rattle.wy_names_lower.specs.wy_names_expand.declared.measure.Expansion.{Expansion}
 use Rattle.wy_names_recursion.specs.Endings.{IsOrder}
 use Rattle.wy_names.proofs.resolved_lemmas.OrderLemmas.{same_summaries}
 use Rattle.wy_names_lower.specs.Uses.{Template}

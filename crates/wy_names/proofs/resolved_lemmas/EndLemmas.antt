@@ -11,14 +11,14 @@ use Rattle.wy_names_recursion.specs.declared.edges.Edge.{Edge}
 use Rattle.wy_names_recursion.specs.declared.edges.Way.TheVariants as way
 use Rattle.wy_names_recursion.specs.Uses.{Edges, property_named}
 use Rattle.wy_names_recursion.specs.ExprUses as exprs
-use Rattle.wy_names_expand.specs.declared.measure.Measure.{Measure}
-use Rattle.wy_names_expand.specs.declared.measure.Spot.{Spot}
-use Rattle.wy_names_expand.specs.declared.measure.Summary.{Summary}
-use Rattle.wy_names_expand.specs.declared.measure.Expansion.{Expansion}
-use Rattle.wy_names_expand.specs.declared.measure.Expansion.TheVariants as expansion
-use Rattle.wy_names_expand.specs.Measures.{inside, quantified, counted}
-use Rattle.wy_names_expand.specs.Sizes as sizes
-use Rattle.wy_names_expand.specs.Sizes.{Known, arg_spot, operator, left_of, right_of, behind_ranges}
+use Rattle.wy_names_lower.specs.wy_names_expand.declared.measure.Measure.{Measure}
+use Rattle.wy_names_lower.specs.wy_names_expand.declared.measure.Spot.{Spot}
+use Rattle.wy_names_lower.specs.wy_names_expand.declared.measure.Summary.{Summary}
+use Rattle.wy_names_lower.specs.wy_names_expand.declared.measure.Expansion.{Expansion}
+use Rattle.wy_names_lower.specs.wy_names_expand.declared.measure.Expansion.TheVariants as expansion
+use Rattle.wy_names_lower.specs.wy_names_expand.Measures.{inside, quantified, counted}
+use Rattle.wy_names_lower.specs.wy_names_expand.Sizes as sizes
+use Rattle.wy_names_lower.specs.wy_names_expand.Sizes.{Known, arg_spot, operator, left_of, right_of, behind_ranges}
 use Rattle.wy_names_lower.specs.Uses.{Template}
 use Rattle.wy_names.proofs.resolved_lemmas.UseLemmas.{Each, of_last, before_ty, before_expr, before_exprs, before_values, before_ranges}
 use Rattle.wy_names.proofs.resolved_lemmas.NotedLemmas.{none_noted}

@@ -13,15 +13,15 @@ use Rattle.wy_names_scope.specs.declared.table.Entry.TheVariants as entry
 use Rattle.wy_names_scope.specs.Faults.{Found}
 use Rattle.wy_names_scope.specs.Places.{place_of_expr}
 use Rattle.wy_names_scope.specs.Scope.{Scope, entry_of}
-use Rattle.wy_names_expand.specs.declared.measure.Measure.{Measure}
-use Rattle.wy_names_expand.specs.declared.measure.Spot.{Spot}
-use Rattle.wy_names_expand.specs.declared.measure.Expansion.{Expansion}
-use Rattle.wy_names_expand.specs.declared.measure.Expansion.TheVariants as expansion
-use Rattle.wy_names_expand.specs.Measures.{nothing, root, deeper, inside, quantified, counted, counted_many, with_call, called, limited, plus, times, reached}
-use Rattle.wy_names_expand.specs.Sizes.{Known, known, variable, property, call, arg_spot, operator, left_of, right_of, in_ty, in_field_tys, behind_ranges, in_expr, in_exprs, in_args, in_fields, in_ranges}
-use Rattle.wy_names_expand.specs.Summaries.{params_of}
-use Rattle.wy_names_expand.specs.Wholes as wholes
-use Rattle.wy_names_expand.specs.Faults as faults
+use Rattle.wy_names_lower.specs.wy_names_expand.declared.measure.Measure.{Measure}
+use Rattle.wy_names_lower.specs.wy_names_expand.declared.measure.Spot.{Spot}
+use Rattle.wy_names_lower.specs.wy_names_expand.declared.measure.Expansion.{Expansion}
+use Rattle.wy_names_lower.specs.wy_names_expand.declared.measure.Expansion.TheVariants as expansion
+use Rattle.wy_names_lower.specs.wy_names_expand.Measures.{nothing, root, deeper, inside, quantified, counted, counted_many, with_call, called, limited, plus, times, reached}
+use Rattle.wy_names_lower.specs.wy_names_expand.Sizes.{Known, known, variable, property, call, arg_spot, operator, left_of, right_of, in_ty, in_field_tys, behind_ranges, in_expr, in_exprs, in_args, in_fields, in_ranges}
+use Rattle.wy_names_lower.specs.wy_names_expand.Summaries.{params_of}
+use Rattle.wy_names_lower.specs.wy_names_expand.Wholes as wholes
+use Rattle.wy_names_lower.specs.wy_names_expand.Faults as faults
 use Rattle.wy_names.proofs.resolved_lemmas.NotedLemmas.{none_noted, noted_none}
 
 before_many : (m : Measure) (s : Spot) (count : ℕ) → (counted_many m s count).found ≡ None → m.found ≡ None

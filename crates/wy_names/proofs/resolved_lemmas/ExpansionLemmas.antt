@@ -14,16 +14,16 @@ use Rattle.wy_names_scope.specs.declared.table.Entry.TheVariants as entry
 use Rattle.wy_names_scope.specs.Faults.{Found}
 use Rattle.wy_names_scope.specs.Places.{place_of_expr}
 use Rattle.wy_names_scope.specs.Scope.{Scope, entry_of}
-use Rattle.wy_names_expand.specs.declared.measure.Measure.{Measure}
-use Rattle.wy_names_expand.specs.declared.measure.Spot.{Spot}
-use Rattle.wy_names_expand.specs.declared.measure.Expansion.{Expansion}
-use Rattle.wy_names_expand.specs.declared.measure.Expansion.TheVariants as expansion
-use Rattle.wy_names_expand.specs.Measures.{plus, times, nothing, root, deeper, quantified, reached, counted_many, with_call, called, expanded, limited}
-use Rattle.wy_names_expand.specs.Sizes as sizes
-use Rattle.wy_names_expand.specs.Sizes.{Known, known, inside, counted, arg_spot, behind_ranges, left_of, right_of}
-use Rattle.wy_names_expand.specs.Wholes as wholes
-use Rattle.wy_names_expand.specs.Faults as faults
-use Rattle.wy_names_expand.specs.Summaries.{params_of}
+use Rattle.wy_names_lower.specs.wy_names_expand.declared.measure.Measure.{Measure}
+use Rattle.wy_names_lower.specs.wy_names_expand.declared.measure.Spot.{Spot}
+use Rattle.wy_names_lower.specs.wy_names_expand.declared.measure.Expansion.{Expansion}
+use Rattle.wy_names_lower.specs.wy_names_expand.declared.measure.Expansion.TheVariants as expansion
+use Rattle.wy_names_lower.specs.wy_names_expand.Measures.{plus, times, nothing, root, deeper, quantified, reached, counted_many, with_call, called, expanded, limited}
+use Rattle.wy_names_lower.specs.wy_names_expand.Sizes as sizes
+use Rattle.wy_names_lower.specs.wy_names_expand.Sizes.{Known, known, inside, counted, arg_spot, behind_ranges, left_of, right_of}
+use Rattle.wy_names_lower.specs.wy_names_expand.Wholes as wholes
+use Rattle.wy_names_lower.specs.wy_names_expand.Faults as faults
+use Rattle.wy_names_lower.specs.wy_names_expand.Summaries.{params_of}
 use Rattle.wy_names.specs.resolved.Expansions.{Wrapped, OfProperty, OfEntry, OfCall, InExpr, InExprs, InArgs, InFields, InRanges, is_over, start, Whole, EachWhole, EachArg, WholeOption, BehindFirst, EachBehindFirst, OneLabel, InLabels, InTest, InPath, InStmt, InStmts, InCases, InRoutine, InDecl, InDecls}
 use Rattle.wy_names.specs.resolved.Shown.{Stands, Either}
 use Rattle.wy_names.proofs.resolved_lemmas.NotesLemmas.{Notes, nothing as none_noted, both, one}

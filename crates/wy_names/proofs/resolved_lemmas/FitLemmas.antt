@@ -5,13 +5,13 @@ use Rattle.wy_ast.specs.SurfaceTree as surface
 use Rattle.wy_core.specs.CoreTree.{Expr}
 use Rattle.wy_names_scope.specs.declared.table.Entry.TheVariants as entry
 use Rattle.wy_names_scope.specs.Scope.{Scope, entry_of}
-use Rattle.wy_names_expand.specs.declared.measure.Expansion.{Expansion}
-use Rattle.wy_names_expand.specs.declared.measure.Expansion.TheVariants as expansion
-use Rattle.wy_names_expand.specs.declared.measure.Spot.{Spot}
-use Rattle.wy_names_expand.specs.declared.measure.Summary.{Summary}
-use Rattle.wy_names_expand.specs.declared.measure.Use.{Use}
-use Rattle.wy_names_expand.specs.Measures.{argument}
-use Rattle.wy_names_expand.specs.Sizes.{use_spot, property_spot, arg_spot}
+use Rattle.wy_names_lower.specs.wy_names_expand.declared.measure.Expansion.{Expansion}
+use Rattle.wy_names_lower.specs.wy_names_expand.declared.measure.Expansion.TheVariants as expansion
+use Rattle.wy_names_lower.specs.wy_names_expand.declared.measure.Spot.{Spot}
+use Rattle.wy_names_lower.specs.wy_names_expand.declared.measure.Summary.{Summary}
+use Rattle.wy_names_lower.specs.wy_names_expand.declared.measure.Use.{Use}
+use Rattle.wy_names_lower.specs.wy_names_expand.Measures.{argument}
+use Rattle.wy_names_lower.specs.wy_names_expand.Sizes.{use_spot, property_spot, arg_spot}
 use Rattle.wy_names_lower.specs.Uses.{Template, or_not, used_by, is_used}
 use Rattle.wy_names_lower.specs.Templates.{stands}
 use Rattle.wy_names.proofs.resolved_lemmas.TallyLemmas.{tally}

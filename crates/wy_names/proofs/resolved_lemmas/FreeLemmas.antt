@@ -10,7 +10,7 @@ use Rattle.wy_names_scope.specs.Faults.{Found}
 use Rattle.wy_names_scope.specs.Scope.{Scope}
 use Rattle.wy_names_recursion.specs.DeclNames as bind
 use Rattle.wy_names_recursion.specs.DeclNames.{clause_context, routine_context}
-use Rattle.wy_names_expand.specs.declared.measure.Expansion.{Expansion}
+use Rattle.wy_names_lower.specs.wy_names_expand.declared.measure.Expansion.{Expansion}
 use Rattle.wy_names_lower.specs.Uses.{Template}
 use Rattle.wy_names_lower.specs.Templates.{params_scope, params_named, used_of, template, with_option, filled, without_uses, templates}
 use Rattle.wy_names_lower.specs.DeclsLowered.{in_params}

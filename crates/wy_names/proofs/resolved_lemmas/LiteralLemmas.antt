@@ -12,7 +12,7 @@ use Rattle.wy_lemmas.proofs.Lists.{Each}
 use Rattle.wy_names_scope.specs.declared.table.Entry.{Entry}
 use Rattle.wy_names_scope.specs.declared.table.Entry.TheVariants as entry
 use Rattle.wy_names_scope.specs.Scope.{Scope, entry_of}
-use Rattle.wy_names_expand.specs.declared.measure.Expansion.{Expansion}
+use Rattle.wy_names_lower.specs.wy_names_expand.declared.measure.Expansion.{Expansion}
 use Rattle.wy_names_lower.specs.Variables.{Variables, declared, named}
 use Rattle.wy_names_lower.specs.Uses.{With, Template, is_used, expansion, called}
 use Rattle.wy_names_lower.specs.TypesLowered.{placed}

@@ -9,14 +9,14 @@ use Rattle.wy_ast.specs.declared.expressions.Op.TheVariants as op
 use Rattle.wy_names_scope.specs.declared.table.Entry.{Entry}
 use Rattle.wy_names_scope.specs.declared.table.Entry.TheVariants as entry
 use Rattle.wy_names_scope.specs.Scope.{entry_of}
-use Rattle.wy_names_expand.specs.declared.measure.Measure.{Measure}
-use Rattle.wy_names_expand.specs.declared.measure.Spot.{Spot}
-use Rattle.wy_names_expand.specs.declared.measure.Expansion.{Expansion}
-use Rattle.wy_names_expand.specs.declared.measure.Expansion.TheVariants as expansion
-use Rattle.wy_names_expand.specs.Measures.{plus, times, root, deeper, quantified, reached, counted_many, with_call, called}
-use Rattle.wy_names_expand.specs.Sizes as sizes
-use Rattle.wy_names_expand.specs.Sizes.{Known, inside, counted, arg_spot, behind_ranges, left_of, right_of}
-use Rattle.wy_names_expand.specs.Wholes as wholes
+use Rattle.wy_names_lower.specs.wy_names_expand.declared.measure.Measure.{Measure}
+use Rattle.wy_names_lower.specs.wy_names_expand.declared.measure.Spot.{Spot}
+use Rattle.wy_names_lower.specs.wy_names_expand.declared.measure.Expansion.{Expansion}
+use Rattle.wy_names_lower.specs.wy_names_expand.declared.measure.Expansion.TheVariants as expansion
+use Rattle.wy_names_lower.specs.wy_names_expand.Measures.{plus, times, root, deeper, quantified, reached, counted_many, with_call, called}
+use Rattle.wy_names_lower.specs.wy_names_expand.Sizes as sizes
+use Rattle.wy_names_lower.specs.wy_names_expand.Sizes.{Known, inside, counted, arg_spot, behind_ranges, left_of, right_of}
+use Rattle.wy_names_lower.specs.wy_names_expand.Wholes as wholes
 use Rattle.wy_names.specs.resolved.Expansions.{is_over}
 
 -- as much is counted

@@ -3,7 +3,7 @@ use Rattle.std.proofs.Common.{◌≡◌, ◌≢◌, ◌∙◌, ◌<◌, ◌≤�
 use Rattle.std.proofs.Math.Dec.{eqb}
 use Rattle.std.proofs.lemmas.Bool.Decides.{eqb_tells}
 use borrow.Author.Tests.{ltb-true, ltb-false}
-use Rattle.wy_names_expand.specs.Measures.{plus, times}
+use Rattle.wy_names_lower.specs.wy_names_expand.Measures.{plus, times}
 
 -- the same number, or both above 4,096
 pub record Near (n k : ℕ) : Type 0 where

@@ -12,7 +12,7 @@ use Rattle.wy_names_scope.specs.Declarations.{routine_count, name_of, place_of, 
 use Rattle.wy_names_scope.specs.Faults.{Found, noted_where}
 use Rattle.wy_names_scope.specs.Scope.{Scope, has, with_name}
 use Rattle.wy_names_recursion.specs.DeclNames as bind
-use Rattle.wy_names_expand.specs.declared.measure.Expansion.{Expansion}
+use Rattle.wy_names_lower.specs.wy_names_expand.declared.measure.Expansion.{Expansion}
 use Rattle.wy_names_lower.specs.Variables.{Variables}
 use Rattle.wy_names_lower.specs.Variables as variables
 use Rattle.wy_names_lower.specs.Uses.{Template}

@@ -9,8 +9,8 @@ use Rattle.wy_names_scope.specs.declared.fault.Cause.TheVariants as cause
 use Rattle.wy_names_scope.specs.declared.fault.Fault.{Fault}
 use Rattle.wy_names_scope.specs.Faults.{Found, noted_where}
 use Rattle.wy_names_recursion.specs.DeclNames as bind
-use Rattle.wy_names_expand.specs.Faults as expand
-use Rattle.wy_names_expand.specs.declared.measure.Expansion.{Expansion}
+use Rattle.wy_names_lower.specs.wy_names_expand.Faults as expand
+use Rattle.wy_names_lower.specs.wy_names_expand.declared.measure.Expansion.{Expansion}
 use Rattle.wy_names_recursion.specs.declared.edges.Edge.{Edge}
 use Rattle.wy_names_recursion.specs.Uses.{Edges}
 use Rattle.wy_names_recursion.specs.Recursion.{noted_marked, NotesRecursion}

@@ -15,9 +15,9 @@ use Rattle.wy_names_scope.specs.Scope.{Scope}
 use Rattle.wy_names_recursion.specs.declared.edges.Edge.{Edge}
 use Rattle.wy_names_recursion.specs.Uses.{Edges}
 use Rattle.wy_names_recursion.specs.DeclUses.{edges_of}
-use Rattle.wy_names_expand.specs.declared.measure.Expansion.{Expansion}
-use Rattle.wy_names_expand.specs.declared.measure.Expansion.TheVariants as expansion
-use Rattle.wy_names_expand.specs.Summaries.{summary, set_at, with_option, summed_up, without_end, summaries}
+use Rattle.wy_names_lower.specs.wy_names_expand.declared.measure.Expansion.{Expansion}
+use Rattle.wy_names_lower.specs.wy_names_expand.declared.measure.Expansion.TheVariants as expansion
+use Rattle.wy_names_lower.specs.wy_names_expand.Summaries.{summary, set_at, with_option, summed_up, without_end, summaries}
 use Rattle.wy_names_recursion.specs.Endings.{is_property, is_use_way, is_use, Ends, ends, IsOrder}
 use Rattle.wy_names.proofs.resolved_lemmas.UseLemmas.{Each, of_decl}
 use Rattle.wy_names.proofs.resolved_lemmas.SizeLemmas.{Alike, same_summary}

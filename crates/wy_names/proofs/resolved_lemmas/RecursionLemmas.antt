@@ -28,7 +28,7 @@ use Rattle.wy_names_recursion.specs.ExprUses as uses_in
 use Rattle.wy_names.proofs.resolved_lemmas.UseLemmas.{Each, before_exprs, of_decl}
 use Rattle.wy_names_recursion.specs.Arrows.{counts, arrows_of}
 use Rattle.wy_names_recursion.specs.Recursion.{is_type, Recurs, noted_marked, NotesRecursion}
-use Rattle.wy_names_expand.specs.declared.measure.Expansion.{Expansion}
+use Rattle.wy_names_lower.specs.wy_names_expand.declared.measure.Expansion.{Expansion}
 use Rattle.wy_names_lower.specs.Variables as variables
 use Rattle.wy_names_lower.specs.Variables.{Variables}
 use Rattle.wy_names_lower.specs.Uses.{Template}

@@ -12,7 +12,7 @@ use Rattle.wy_names_recursion.specs.DeclNames as bind
 use Rattle.wy_names_recursion.specs.declared.edges.Edge.{Edge}
 use Rattle.wy_names_recursion.specs.Uses.{Edges}
 use Rattle.wy_names_recursion.specs.Recursion.{noted_marked}
-use Rattle.wy_names_expand.specs.declared.measure.Expansion.{Expansion}
+use Rattle.wy_names_lower.specs.wy_names_expand.declared.measure.Expansion.{Expansion}
 use Rattle.wy_names_lower.specs.Uses.{Template}
 use Rattle.wy_names_lower.specs.Templates.{templates}
 use Rattle.wy_names_lower.specs.DeclsLowered.{in_decls}

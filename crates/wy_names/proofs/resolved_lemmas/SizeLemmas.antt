@@ -11,13 +11,13 @@ use Rattle.wy_names_recursion.specs.declared.edges.Edge.{Edge}
 use Rattle.wy_names_recursion.specs.declared.edges.Way.TheVariants as way
 use Rattle.wy_names_recursion.specs.Uses.{Edges, property_named}
 use Rattle.wy_names_recursion.specs.ExprUses as exprs
-use Rattle.wy_names_expand.specs.declared.measure.Measure.{Measure}
-use Rattle.wy_names_expand.specs.declared.measure.Spot.{Spot}
-use Rattle.wy_names_expand.specs.declared.measure.Expansion.{Expansion}
-use Rattle.wy_names_expand.specs.Measures.{nothing, root, deeper, inside, counted, quantified}
-use Rattle.wy_names_expand.specs.Sizes.{known, property, property_spot, call, arg_spot, operator, left_of, right_of, in_ty, behind_ranges}
-use Rattle.wy_names_expand.specs.Sizes as sizes
-use Rattle.wy_names_expand.specs.Summaries.{params_of, no_uses, one_clause, in_joined, summed, summary}
+use Rattle.wy_names_lower.specs.wy_names_expand.declared.measure.Measure.{Measure}
+use Rattle.wy_names_lower.specs.wy_names_expand.declared.measure.Spot.{Spot}
+use Rattle.wy_names_lower.specs.wy_names_expand.declared.measure.Expansion.{Expansion}
+use Rattle.wy_names_lower.specs.wy_names_expand.Measures.{nothing, root, deeper, inside, counted, quantified}
+use Rattle.wy_names_lower.specs.wy_names_expand.Sizes.{known, property, property_spot, call, arg_spot, operator, left_of, right_of, in_ty, behind_ranges}
+use Rattle.wy_names_lower.specs.wy_names_expand.Sizes as sizes
+use Rattle.wy_names_lower.specs.wy_names_expand.Summaries.{params_of, no_uses, one_clause, in_joined, summed, summary}
 use Rattle.wy_names.proofs.resolved_lemmas.UseLemmas.{Each, of_last, before_ty, before_expr, before_exprs, before_values, before_ranges}
 
 abbrev pub use_of : ℕ → ℕ → ℕ → Edge

@@ -17,13 +17,13 @@ use Rattle.wy_names_recursion.specs.ExprNames as exprs
 use Rattle.wy_names_recursion.specs.StmtNames as stmts
 use Rattle.wy_names_recursion.specs.DeclNames as bind
 use Rattle.wy_names_recursion.specs.DeclNames.{clause_context, routine_context}
-use Rattle.wy_names_expand.specs.declared.measure.Expansion.{Expansion}
-use Rattle.wy_names_expand.specs.Measures.{nothing, root}
-use Rattle.wy_names_expand.specs.Sizes as sizes
-use Rattle.wy_names_expand.specs.Sizes.{Known, known}
-use Rattle.wy_names_expand.specs.Summaries.{params_of}
-use Rattle.wy_names_expand.specs.Wholes as wholes
-use Rattle.wy_names_expand.specs.Faults as faults
+use Rattle.wy_names_lower.specs.wy_names_expand.declared.measure.Expansion.{Expansion}
+use Rattle.wy_names_lower.specs.wy_names_expand.Measures.{nothing, root}
+use Rattle.wy_names_lower.specs.wy_names_expand.Sizes as sizes
+use Rattle.wy_names_lower.specs.wy_names_expand.Sizes.{Known, known}
+use Rattle.wy_names_lower.specs.wy_names_expand.Summaries.{params_of}
+use Rattle.wy_names_lower.specs.wy_names_expand.Wholes as wholes
+use Rattle.wy_names_lower.specs.wy_names_expand.Faults as faults
 use Rattle.wy_names_lower.specs.Variables.{Variables, named}
 use Rattle.wy_names_lower.specs.Variables as variables
 use Rattle.wy_names_lower.specs.Uses.{Template}

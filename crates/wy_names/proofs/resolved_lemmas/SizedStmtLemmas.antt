@@ -14,8 +14,8 @@ use Rattle.wy_names_recursion.specs.TypeNames.{just_a_name}
 use Rattle.wy_names_recursion.specs.ExprNames as exprs
 use Rattle.wy_names_recursion.specs.StmtNames as bind
 use Rattle.wy_names_recursion.specs.StmtNames.{differ}
-use Rattle.wy_names_expand.specs.Sizes.{Known}
-use Rattle.wy_names_expand.specs.Wholes as wholes
+use Rattle.wy_names_lower.specs.wy_names_expand.Sizes.{Known}
+use Rattle.wy_names_lower.specs.wy_names_expand.Wholes as wholes
 use Rattle.wy_names_lower.specs.Variables.{Variables, named}
 use Rattle.wy_names_lower.specs.Uses.{Template}
 use Rattle.wy_names_lower.specs.ExprsLowered.{in_expr}

@@ -30,14 +30,14 @@ use Rattle.wy_names_recursion.specs.declared.edges.Edge.{Edge}
 use Rattle.wy_names_recursion.specs.Uses.{Edges}
 use Rattle.wy_names_recursion.specs.DeclUses.{edges_of}
 use Rattle.wy_names_recursion.specs.Endings.{is_property, is_use_way, is_use, Ends, IsOrder}
-use Rattle.wy_names_expand.specs.declared.measure.Measure.{Measure}
-use Rattle.wy_names_expand.specs.declared.measure.Summary.{Summary}
-use Rattle.wy_names_expand.specs.declared.measure.Expansion.{Expansion}
-use Rattle.wy_names_expand.specs.declared.measure.Expansion.TheVariants as expansion
-use Rattle.wy_names_expand.specs.Measures.{nothing, root}
-use Rattle.wy_names_expand.specs.Sizes.{known}
-use Rattle.wy_names_expand.specs.Summaries as summed
-use Rattle.wy_names_expand.specs.Summaries.{params_from, params_of, no_uses, in_joined, summary, summed_up, without_end, summaries}
+use Rattle.wy_names_lower.specs.wy_names_expand.declared.measure.Measure.{Measure}
+use Rattle.wy_names_lower.specs.wy_names_expand.declared.measure.Summary.{Summary}
+use Rattle.wy_names_lower.specs.wy_names_expand.declared.measure.Expansion.{Expansion}
+use Rattle.wy_names_lower.specs.wy_names_expand.declared.measure.Expansion.TheVariants as expansion
+use Rattle.wy_names_lower.specs.wy_names_expand.Measures.{nothing, root}
+use Rattle.wy_names_lower.specs.wy_names_expand.Sizes.{known}
+use Rattle.wy_names_lower.specs.wy_names_expand.Summaries as summed
+use Rattle.wy_names_lower.specs.wy_names_expand.Summaries.{params_from, params_of, no_uses, in_joined, summary, summed_up, without_end, summaries}
 use Rattle.wy_names_lower.specs.Variables.{Variables, named}
 use Rattle.wy_names_lower.specs.Variables as variables
 use Rattle.wy_names_lower.specs.Uses.{Template}

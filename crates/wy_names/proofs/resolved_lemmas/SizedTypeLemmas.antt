@@ -9,10 +9,10 @@ use Rattle.wy_names_scope.specs.Places.{place_of_ty}
 use Rattle.wy_names_scope.specs.Scope.{Scope, has, with_name}
 use Rattle.wy_names_recursion.specs.TypeNames as bind
 use Rattle.wy_names_recursion.specs.TypeNames.{just_a_name}
-use Rattle.wy_names_expand.specs.declared.measure.Measure.{Measure}
-use Rattle.wy_names_expand.specs.declared.measure.Spot.{Spot}
-use Rattle.wy_names_expand.specs.Measures.{inside, counted}
-use Rattle.wy_names_expand.specs.Sizes as sizes
+use Rattle.wy_names_lower.specs.wy_names_expand.declared.measure.Measure.{Measure}
+use Rattle.wy_names_lower.specs.wy_names_expand.declared.measure.Spot.{Spot}
+use Rattle.wy_names_lower.specs.wy_names_expand.Measures.{inside, counted}
+use Rattle.wy_names_lower.specs.wy_names_expand.Sizes as sizes
 use Rattle.wy_names_lower.specs.TypesLowered as lower
 use Rattle.wy_names_lower.specs.TypesLowered.{placed}
 use Rattle.wy_names.proofs.resolved_lemmas.NotedLemmas.{noted_none}

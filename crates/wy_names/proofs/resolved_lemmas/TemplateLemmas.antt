@@ -16,7 +16,7 @@ use Rattle.wy_names_scope.specs.Scope.{Scope}
 use Rattle.wy_names_recursion.specs.declared.edges.Edge.{Edge}
 use Rattle.wy_names_recursion.specs.Uses.{Edges}
 use Rattle.wy_names_recursion.specs.DeclUses.{edges_of}
-use Rattle.wy_names_expand.specs.declared.measure.Expansion.{Expansion}
+use Rattle.wy_names_lower.specs.wy_names_expand.declared.measure.Expansion.{Expansion}
 use Rattle.wy_names_recursion.specs.Endings.{is_property, is_use_way, is_use, Ends, ends, IsOrder}
 use Rattle.wy_names.proofs.resolved_lemmas.UseLemmas.{Each, of_decl}
 use Rattle.wy_names_lower.specs.Uses.{Template}

@@ -22,14 +22,14 @@ use Rattle.wy_names_recursion.specs.Calls.{contract, call, is_variable}
 use Rattle.wy_names_recursion.specs.TypeNames.{just_a_name}
 use Rattle.wy_names_recursion.specs.ExprNames as bind
 use Rattle.wy_names_recursion.specs.ExprNames.{count_of, with_ranges}
-use Rattle.wy_names_expand.specs.declared.measure.Measure.{Measure}
-use Rattle.wy_names_expand.specs.declared.measure.Spot.{Spot}
-use Rattle.wy_names_expand.specs.declared.measure.Summary.{Summary}
-use Rattle.wy_names_expand.specs.declared.measure.Use.{Use}
-use Rattle.wy_names_expand.specs.declared.measure.Expansion.{Expansion}
-use Rattle.wy_names_expand.specs.Measures.{plus, inside, deeper, quantified, argument, counted, counted_many, called, expanded, used}
-use Rattle.wy_names_expand.specs.Sizes as sizes
-use Rattle.wy_names_expand.specs.Sizes.{Known, variable, arg_spot, operator, left_of, right_of, behind_ranges}
+use Rattle.wy_names_lower.specs.wy_names_expand.declared.measure.Measure.{Measure}
+use Rattle.wy_names_lower.specs.wy_names_expand.declared.measure.Spot.{Spot}
+use Rattle.wy_names_lower.specs.wy_names_expand.declared.measure.Summary.{Summary}
+use Rattle.wy_names_lower.specs.wy_names_expand.declared.measure.Use.{Use}
+use Rattle.wy_names_lower.specs.wy_names_expand.declared.measure.Expansion.{Expansion}
+use Rattle.wy_names_lower.specs.wy_names_expand.Measures.{plus, inside, deeper, quantified, argument, counted, counted_many, called, expanded, used}
+use Rattle.wy_names_lower.specs.wy_names_expand.Sizes as sizes
+use Rattle.wy_names_lower.specs.wy_names_expand.Sizes.{Known, variable, arg_spot, operator, left_of, right_of, behind_ranges}
 use Rattle.wy_names_lower.specs.Variables.{Variables, declared, named, variable_of}
 use Rattle.wy_names_lower.specs.Uses.{With, Template, is_used, expansion as expanded_use}
 use Rattle.wy_names_lower.specs.Uses as uses

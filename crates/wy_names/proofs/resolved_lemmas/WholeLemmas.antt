@@ -13,12 +13,12 @@ use Rattle.wy_names_scope.specs.Scope.{Scope}
 use Rattle.wy_names_recursion.specs.declared.context.Context.{Context}
 use Rattle.wy_names_recursion.specs.ExprNames as bind
 use Rattle.wy_names_recursion.specs.StmtNames as stmts
-use Rattle.wy_names_expand.specs.declared.measure.Measure.{Measure}
-use Rattle.wy_names_expand.specs.declared.measure.Spot.{Spot}
-use Rattle.wy_names_expand.specs.Measures.{nothing, root, deeper, inside, counted, limited}
-use Rattle.wy_names_expand.specs.Sizes as sizes
-use Rattle.wy_names_expand.specs.Sizes.{Known, in_label}
-use Rattle.wy_names_expand.specs.Wholes as wholes
+use Rattle.wy_names_lower.specs.wy_names_expand.declared.measure.Measure.{Measure}
+use Rattle.wy_names_lower.specs.wy_names_expand.declared.measure.Spot.{Spot}
+use Rattle.wy_names_lower.specs.wy_names_expand.Measures.{nothing, root, deeper, inside, counted, limited}
+use Rattle.wy_names_lower.specs.wy_names_expand.Sizes as sizes
+use Rattle.wy_names_lower.specs.wy_names_expand.Sizes.{Known, in_label}
+use Rattle.wy_names_lower.specs.wy_names_expand.Wholes as wholes
 use Rattle.wy_names_lower.specs.Variables.{Variables}
 use Rattle.wy_names_lower.specs.Uses.{With, Template}
 use Rattle.wy_names_lower.specs.ExprsLowered as lower

@@ -9,14 +9,14 @@ use Rattle.wy_names_scope.specs.declared.table.Entry.{Entry}
 use Rattle.wy_names_scope.specs.declared.table.Entry.TheVariants as entry
 use Rattle.wy_names_scope.specs.Places.{place_of_expr}
 use Rattle.wy_names_scope.specs.Scope.{Scope, entry_of}
-use Rattle.wy_names_expand.specs.declared.measure.Measure.{Measure}
-use Rattle.wy_names_expand.specs.declared.measure.Spot.{Spot}
-use Rattle.wy_names_expand.specs.declared.measure.Expansion.{Expansion}
-use Rattle.wy_names_expand.specs.declared.measure.Expansion.TheVariants as expansion
-use Rattle.wy_names_expand.specs.Measures.{nothing, root, deeper, quantified}
-use Rattle.wy_names_expand.specs.Sizes.{Known, known, inside, counted, arg_spot, behind_ranges, left_of, right_of, in_expr}
-use Rattle.wy_names_expand.specs.Summaries.{params_of}
-use Rattle.wy_names_expand.specs.Wholes.{in_labels}
+use Rattle.wy_names_lower.specs.wy_names_expand.declared.measure.Measure.{Measure}
+use Rattle.wy_names_lower.specs.wy_names_expand.declared.measure.Spot.{Spot}
+use Rattle.wy_names_lower.specs.wy_names_expand.declared.measure.Expansion.{Expansion}
+use Rattle.wy_names_lower.specs.wy_names_expand.declared.measure.Expansion.TheVariants as expansion
+use Rattle.wy_names_lower.specs.wy_names_expand.Measures.{nothing, root, deeper, quantified}
+use Rattle.wy_names_lower.specs.wy_names_expand.Sizes.{Known, known, inside, counted, arg_spot, behind_ranges, left_of, right_of, in_expr}
+use Rattle.wy_names_lower.specs.wy_names_expand.Summaries.{params_of}
+use Rattle.wy_names_lower.specs.wy_names_expand.Wholes.{in_labels}
 use Rattle.wy_names.specs.resolved.Shown.{Stands, Never, Either}
 
 -- a call that stands there, which the property used at the place puts into a quantifier this often

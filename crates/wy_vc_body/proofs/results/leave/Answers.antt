@@ -4,7 +4,7 @@ use Rattle.wy_core.specs.declared.expressions.Expr as e
 use Rattle.wy_term.specs.declared.cond.CondKind.TheVariants as kind
 use Rattle.wy_vc_exprs.specs.wy_vc_spec.Clauses.{owe_clauses}
 use Rattle.wy_vc_exprs.specs.wy_vc_spec.Numbered.{numbered_list}
-use Rattle.wy_vc_tables.specs.program_names.Described.{setting}
+use Rattle.wy_vc_exprs.specs.wy_vc_tables.program_names.Described.{setting}
 use Rattle.wy_vc_exprs.specs.Slots.{AreSlots, slots_of}
 use Rattle.wy_vc_exprs.specs.State.{Steps, hyps_of}
 use Rattle.wy_vc_exprs.specs.declared.walk.Walk.{Walk}

@@ -4,7 +4,7 @@ use Rattle.wy_core.specs.CoreTree.{routines_of}
 use Rattle.wy_sem.specs.Evaluation as sem
 use Rattle.wy_vc_terms.specs.wy_vc_spec.Calls.{callee_walk}
 use Rattle.wy_vc_terms.specs.wy_vc_spec.Numbered.{Node, numbered_core}
-use Rattle.wy_vc_tables.specs.program_names.Described.{setting}
+use Rattle.wy_vc_terms.specs.wy_vc_tables.program_names.Described.{setting}
 use Rattle.wy_vc_exprs.specs.Numbered.{trees_of}
 use Rattle.wy_vc_exprs.specs.State.{Walks, hyps_of}
 use Rattle.wy_vc_exprs.proofs.CalleeLemmas.{when_declared, when_print, when_print_int, when_unknown}

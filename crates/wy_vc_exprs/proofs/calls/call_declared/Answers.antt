@@ -2,7 +2,7 @@ use Rattle.std.proofs.Common.{List, Option, ℕ, subst, sym, refl}
 use Rattle.wy_core.specs.CoreTree as tree
 use Rattle.wy_vc_terms.specs.wy_vc_spec.Calls.{routine_walk}
 use Rattle.wy_vc_terms.specs.wy_vc_spec.Numbered.{Node}
-use Rattle.wy_vc_tables.specs.program_names.Described.{setting}
+use Rattle.wy_vc_terms.specs.wy_vc_tables.program_names.Described.{setting}
 use Rattle.wy_vc_exprs.specs.Numbered.{trees_of}
 use Rattle.wy_vc_exprs.specs.Slots.{AreSlots}
 use Rattle.wy_vc_exprs.specs.State.{Walks, hyps_of}

@@ -1,5 +1,5 @@
 use Rattle.std.proofs.Common.{refl}
-use Rattle.wy_vc_tables.specs.program_names.Described.{setting}
+use Rattle.wy_vc_terms.specs.wy_vc_tables.program_names.Described.{setting}
 use Rattle.wy_vc_exprs.specs.Slots.{slots_of}
 use Rattle.wy_vc_exprs.proofs.GivenLemmas.{nothing_walk}
 use Rattle.wy_vc_exprs.proofs.calls.nothing_given.Goals as goal

@@ -1,6 +1,6 @@
 use Rattle.std.proofs.Common.{◌∙◌, List, Option, ℕ, subst, sym, refl}
 use Rattle.wy_core.specs.CoreSeen.{seen_ty}
-use Rattle.wy_vc_tables.specs.program_names.Described.{setting}
+use Rattle.wy_vc_terms.specs.wy_vc_tables.program_names.Described.{setting}
 use Rattle.wy_vc_exprs.specs.Slots.{AreSlots}
 use Rattle.wy_vc_exprs.proofs.SlotLemmas.{slots_on}
 use Rattle.wy_vc_exprs.proofs.StateLemmas.{at_kept, kept_on, sound_made}

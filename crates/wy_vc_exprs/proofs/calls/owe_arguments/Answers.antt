@@ -1,6 +1,6 @@
 use Rattle.std.proofs.Common.{◌<◌, ◌∙◌, length, get_or, ap, arith}
 use Rattle.wy_core.specs.declared.declarations.Param.{Param}
-use Rattle.wy_vc_tables.specs.program_names.Described.{setting}
+use Rattle.wy_vc_terms.specs.wy_vc_tables.program_names.Described.{setting}
 use Rattle.wy_vc_exprs.proofs.OweLemmas.{number_item}
 use Rattle.wy_vc_exprs.proofs.CallLemmas.{argument_turn, arguments_end, ends_there}
 use Rattle.wy_vc_exprs.proofs.calls.owe_arguments.Goals as goal

@@ -1,5 +1,5 @@
 use Rattle.std.proofs.Common.{◌≡◌, drop}
-use Rattle.wy_vc_tables.specs.program_names.Described.{setting}
+use Rattle.wy_vc_terms.specs.wy_vc_tables.program_names.Described.{setting}
 use Rattle.wy_vc_exprs.specs.Numbered.{trees_of}
 use Rattle.wy_vc_exprs.specs.State.{hyps_of}
 use Rattle.wy_vc_exprs.proofs.StateLemmas.{Toward}

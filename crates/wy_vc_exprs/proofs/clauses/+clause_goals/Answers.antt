@@ -1,6 +1,6 @@
 use Rattle.std.proofs.Common.{◌≡◌, ◌∙◌, ◌++◌, ℕ, List, false, true, ap}
 use Rattle.wy_core.specs.CoreSeen.{seen_expr}
-use Rattle.wy_vc_tables.specs.program_names.Described.{setting}
+use Rattle.wy_vc_terms.specs.wy_vc_tables.program_names.Described.{setting}
 use Rattle.wy_vc_exprs.proofs.ResultLemmas.{if_ok}
 use Rattle.wy_vc_exprs.specs.Conjunctions.{is_conjunction}
 use Rattle.wy_vc_exprs.proofs.ClauseLemmas.{one_made, both_made, binary_read, slots_at_kept}

@@ -2,7 +2,7 @@ use Rattle.std.proofs.Common.{refl}
 use Rattle.wy_core.specs.CoreSeen.{seen_expr}
 use Rattle.wy_vc_terms.specs.wy_vc_spec.Clauses.{pass_goals, goals}
 use Rattle.wy_vc_terms.specs.wy_vc_spec.Numbered.{numbered}
-use Rattle.wy_vc_tables.specs.program_names.Described.{setting}
+use Rattle.wy_vc_terms.specs.wy_vc_tables.program_names.Described.{setting}
 use Rattle.wy_vc_exprs.proofs.ClauseLemmas.{owing_clauses, owed_one_by_one, left_begin, left_turn, left_end, left_node, next_seen, none_seen}
 use Rattle.wy_vc_exprs.proofs.clauses.owe_clauses.Goals as goal
 

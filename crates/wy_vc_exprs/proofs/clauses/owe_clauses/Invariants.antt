@@ -1,6 +1,6 @@
 use Rattle.std.proofs.Common.{drop}
 use Rattle.wy_core.specs.CoreSeen.{seen_exprs}
-use Rattle.wy_vc_tables.specs.program_names.Described.{setting}
+use Rattle.wy_vc_terms.specs.wy_vc_tables.program_names.Described.{setting}
 use Rattle.wy_vc_exprs.proofs.ClauseLemmas.{Left, owing_clauses}
 use Rattle.wy_vc_exprs.proofs.clauses.owe_clauses.Given as goal
 

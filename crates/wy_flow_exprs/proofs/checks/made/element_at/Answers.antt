@@ -2,7 +2,7 @@ use Rattle.std.proofs.Common.{refl}
 use Rattle.wy_core.specs.CoreSeen.{seen_ty}
 use Rattle.wy_core.specs.declared.types.Ty.{Ty}
 use Rattle.wy_types.specs.Names.{types_of}
-use Rattle.wy_subtype_parts.specs.Items.{IsWideElement}
+use Rattle.wy_flow_spec.specs.wy_subtype_parts.Items.{IsWideElement}
 use Rattle.wy_flow_spec.specs.declared.typing.fault.FlowFault.{FlowFault}
 use Rattle.wy_flow_spec.specs.typing.Outcomes.{Fails}
 use Rattle.wy_flow_spec.specs.typing.Asked.{Element}

@@ -1,4 +1,4 @@
-use Rattle.wy_core.specs.CoreSeen.{seen_ty}
+use Rattle.wy_subtype_parts.specs.wy_core.CoreSeen.{seen_ty}
 use Rattle.wy_flow_spec.specs.environment.Seen.{seen_slots, seen_changes}
 use Rattle.std.proofs.Common.{◌≡◌, drop}
 use Rattle.wy_flow_spec.specs.environment.Variables as spec
