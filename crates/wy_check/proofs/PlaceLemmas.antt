@@ -6,7 +6,7 @@ use Rattle.std.proofs.lemmas.Bool.Decides.{nat_tests}
 use Rattle.wy_lemmas.proofs.Choices.{same_of as number_is, same_to as same_number}
 use Rattle.wy_term.specs.declared.cond.Cond.{Cond}
 use Rattle.wy_term.specs.Condition.{Condition}
-use Rattle.wy_check_splits.specs.wy_cert.Steps.{Written, Certificates}
+use Rattle.wy_cert.specs.Steps.{Written, Certificates}
 use Rattle.wy_vc_laws.specs.wy_check_spec.valid.Validity.{first_bad}
 use Rattle.wy_check.specs.declared.verdict.Verdict.{Verdict}
 use Rattle.wy_check.specs.declared.verdict.Verdict.TheVariants.{Supplied, Missing, Bad}

@@ -3,9 +3,9 @@ use Rattle.std.proofs.Common.{◌≡◌, ◌↔◌, ℕ, ◌+◌, List, [], ◌�
 use Rattle.std.specs.Prelude.{◌==◌, ◌||◌}
 use Rattle.wy_lemmas.proofs.Choices.{same_of as number_is, same_to as same_number}
 use Rattle.wy_term.specs.Condition.{Condition}
-use Rattle.wy_check_splits.specs.wy_cert.declared.fault.CertFault.{CertFault}
-use Rattle.wy_check_splits.specs.wy_cert.Steps.{Written, Certificates}
-use Rattle.wy_check_splits.specs.wy_cert.File.{is_listed, ReadsCerts, ends_early, complete, goes_behind_end, outside, twice, absent, bad_tree, goes_on, ReadsFile, first, second, no_header}
+use Rattle.wy_cert.specs.declared.fault.CertFault.{CertFault}
+use Rattle.wy_cert.specs.Steps.{Written, Certificates}
+use Rattle.wy_cert.specs.File.{is_listed, ReadsCerts, ends_early, complete, goes_behind_end, outside, twice, absent, bad_tree, goes_on, ReadsFile, first, second, no_header}
 use Rattle.wy_vc_laws.specs.wy_check_spec.valid.Validity.{first_bad}
 use Rattle.wy_vc_laws.specs.shown.Certified.{Has, AreFormed, IsCertified, AreCertified, AllHold}
 use Rattle.wy_vc_laws.proofs.shown_lemmas.CertifiedLemmas.{read_certificate_shows}

@@ -6,7 +6,7 @@ use Rattle.wy_term.specs.Term.{Term}
 use Rattle.wy_term.specs.Condition.{Entry}
 use Rattle.wy_vc_laws.specs.wy_check_spec.judge.Node.{Node, is_atom, added, denied_one}
 use Rattle.wy_lin.specs.Linear.{◌>>=◌, Linear}
-use Rattle.wy_check_splits.specs.wy_cert.Steps.{split, shut, chain, clash, sum_of, cut, inst, wit, fact, prod}
+use Rattle.wy_cert.specs.Steps.{split, shut, chain, clash, sum_of, cut, inst, wit, fact, prod}
 use Rattle.wy_vc_laws.specs.wy_check_spec.valid.Literals.{is_shut}
 use Rattle.wy_vc_laws.specs.wy_check_spec.valid.Sums.{summed, is_refuting, cut_of}
 use Rattle.wy_vc_laws.specs.wy_check_spec.valid.Ranges.{instance_stated, witness_stated}

@@ -4,8 +4,8 @@ use Rattle.std.specs.Prelude.{IfOk}
 use Rattle.wy_vc_laws.specs.wy_check_spec.judge.Node.{Node}
 use Rattle.std.proofs.lemmas.List.{drop_more}
 use Rattle.wy_term.specs.Term.{Term}
-use Rattle.wy_check_splits.specs.wy_cert.declared.step.Step.{Step}
-use Rattle.wy_check_splits.specs.wy_cert.Steps.{Written, written}
+use Rattle.wy_cert.specs.declared.step.Step.{Step}
+use Rattle.wy_cert.specs.Steps.{Written, written}
 use Rattle.wy_vc_laws.specs.wy_check_spec.valid.Validity.{or_bad, first_bad_by}
 use Rattle.wy_check.specs.declared.checking.Checked.{Checked}
 use Rattle.wy_check.specs.declared.checking.Checked.TheVariants.{Yes, No}

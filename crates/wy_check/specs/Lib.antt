@@ -10,7 +10,7 @@ pub mod Verdicts
 pub mod Within
 pub mod Shown
 -- passed on to the crates above
-pub use Rattle.wy_check_splits.specs.wy_cert as wy_cert
+pub use Rattle.wy_cert.specs as wy_cert
 pub use Rattle.wy_vc_laws.specs.wy_check_laws as wy_check_laws
 pub use Rattle.wy_check_splits.specs.wy_check_nodes as wy_check_nodes
 pub use Rattle.wy_vc_laws.specs.wy_core as wy_core

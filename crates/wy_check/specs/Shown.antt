@@ -1,8 +1,8 @@
 -- What verdicts on the certificates of a file show.
 use Rattle.std.specs.Prelude.{◌↔◌, ℕ, List, length, Ok}
 use Rattle.wy_term.specs.Condition.{Condition}
-use Rattle.wy_check_splits.specs.wy_cert.Steps.{Certificates}
-use Rattle.wy_check_splits.specs.wy_cert.File.{ReadsFile}
+use Rattle.wy_cert.specs.Steps.{Certificates}
+use Rattle.wy_cert.specs.File.{ReadsFile}
 use Rattle.wy_vc_laws.specs.shown.Certified.{AreFormed, AreCertified, AllHold}
 use Rattle.wy_check.specs.Verdicts.{verdicts_on, AreSupplied}
 

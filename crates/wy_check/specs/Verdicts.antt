@@ -1,7 +1,7 @@
 -- What is known of conditions for which certificates are given?
 use Rattle.std.specs.Prelude.{◌≡◌, ℕ, ◌+◌, ◌==◌, List, [], ◌∷◌, Option, Some, None, if◌then◌else◌}
 use Rattle.wy_term.specs.Condition.{Condition}
-use Rattle.wy_check_splits.specs.wy_cert.Steps.{Written, Certificates}
+use Rattle.wy_cert.specs.Steps.{Written, Certificates}
 use Rattle.wy_vc_laws.specs.wy_check_spec.valid.Validity.{first_bad}
 use Rattle.wy_check.specs.declared.verdict.Verdict.{Verdict}
 use Rattle.wy_check.specs.declared.verdict.Verdict.TheVariants.{Supplied, Missing, Bad}

@@ -2,14 +2,14 @@
 ghost use Rattle.std.specs.Prelude.{◌≡◌, ◌<◌, ◌++◌, ◌∷◌, [], ℕ, All, length, map, IfOk, Some};
 ghost use Rattle.wy_term.specs.Nodes.{tree_at};
 ghost use Rattle.wy_term.specs.Condition.{condition_of};
-ghost use Rattle.wy_check_splits.specs.wy_cert.Steps.{Certificates, steps_of, certificates_of, NamesItsTerms, NameTheirTerms};
+ghost use Rattle.wy_cert.specs.Steps.{Certificates, steps_of, certificates_of, NamesItsTerms, NameTheirTerms};
 ghost use Rattle.wy_check.specs.Within.{IsWithin, AllMissing};
 ghost use Rattle.wy_check.specs.Verdicts.{verdict_on, verdicts_on};
 
 use crate::checking::{Checked, check};
 use crate::verdict::Verdict;
 use std::alloc::Global;
-use wy_check_splits::wy_cert::{Cert, Certs};
+use wy_cert::{Cert, Certs};
 use wy_term::{Cond, NoMemory, Terms};
 
 /// The verdicts on conditions, in order, where these certificates are given, each for the condition with its number, from 1.

@@ -4,13 +4,13 @@ ghost use Rattle.wy_term.specs.Nodes.{tree_at};
 ghost use Rattle.wy_term.specs.Condition.{condition_of};
 ghost use Rattle.wy_facts.specs.Membership.{AreTypesBelow};
 ghost use Rattle.wy_facts.specs.Seen.{Stays};
-ghost use Rattle.wy_check_splits.specs.wy_cert.Steps.{steps_of, NamesItsTerms};
+ghost use Rattle.wy_cert.specs.Steps.{steps_of, NamesItsTerms};
 ghost use Rattle.wy_vc_laws.specs.wy_check_spec.valid.Validity.{first_bad, IsValid};
 ghost use Rattle.wy_check.specs.Answer.{bad_step};
 ghost use Rattle.wy_check.specs.declared.checking.Checked.TheVariants.{Yes};
 
 use crate::turning::turned;
-use wy_check_splits::wy_cert::Cert;
+use wy_cert::Cert;
 use wy_check_splits::{first_branch, one_node};
 use wy_term::{Cond, NoMemory, Terms};
 

@@ -5,7 +5,7 @@ ghost use Rattle.wy_term.specs.Condition.{Entry, condition_of};
 ghost use Rattle.wy_facts.specs.Membership.{AreTypesBelow};
 ghost use Rattle.wy_facts.specs.Seen.{terms_at, AreBelow, Stays};
 ghost use Rattle.wy_check_splits.specs.wy_check_nodes.Seen.{seen_branch, IsBranch};
-ghost use Rattle.wy_check_splits.specs.wy_cert.Steps.{split, shut, chain, clash, sum_of, cut, inst, wit, fact as fact_step, prod, written, IsBelow};
+ghost use Rattle.wy_cert.specs.Steps.{split, shut, chain, clash, sum_of, cut, inst, wit, fact as fact_step, prod, written, IsBelow};
 ghost use Rattle.wy_vc_laws.specs.wy_check_spec.judge.Node.{Node};
 ghost use Rattle.wy_vc_laws.specs.wy_check_spec.valid.Membership.{fact_among};
 ghost use Rattle.wy_vc_laws.specs.wy_check_spec.valid.Validity.{after};
@@ -14,7 +14,7 @@ ghost use Rattle.wy_check.specs.Led.{led, IsOutcomeOver};
 use crate::bringing::{all_brought, brought};
 use crate::outcome::{Outcome, adds, adds_one, closes};
 use crate::product::product_stated;
-use wy_check_splits::wy_cert::Step;
+use wy_cert::Step;
 use wy_check_splits::{
     Branch, chain_stated, cut_stated, instance_stated, is_atom, is_clash, is_refuting, is_shut,
     witness_stated,

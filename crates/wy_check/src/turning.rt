@@ -5,14 +5,14 @@ ghost use Rattle.wy_term.specs.Condition.{condition_of};
 ghost use Rattle.wy_facts.specs.Membership.{AreTypesBelow};
 ghost use Rattle.wy_facts.specs.Seen.{Stays};
 ghost use Rattle.wy_check_splits.specs.wy_check_nodes.Seen.{seen_branch};
-ghost use Rattle.wy_check_splits.specs.wy_cert.Steps.{written, IsBelow};
+ghost use Rattle.wy_cert.specs.Steps.{written, IsBelow};
 ghost use Rattle.wy_vc_laws.specs.wy_check_spec.valid.Validity.{after};
 ghost use Rattle.wy_check_splits.specs.wy_check_nodes.Trail.{nodes_of, second_nodes, IsTrail};
 ghost use Rattle.wy_check.specs.Led.{led, IsOutcomeOver, IsTurned};
 
 use crate::outcome::Outcome;
 use crate::steps::outcome_of;
-use wy_check_splits::wy_cert::Step;
+use wy_cert::Step;
 use wy_check_splits::{Trail, close, grow, split};
 use wy_term::{Cond, NoMemory, Terms};
 

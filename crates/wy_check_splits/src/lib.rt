@@ -51,7 +51,6 @@ pub use numbers::fresh_number;
 pub use quantifier::{Range, of_each, of_one};
 pub use todo::{put_all, put_members};
 pub use witness::{witness_stated, witnessed_at};
-pub use wy_cert;
 pub use wy_check_nodes::{
     Branch, Trail, add_literal, add_pending, back_to, bare, close, cut_stated, fails, first_branch,
     form_at, grow, has_literal, is_atom, is_connective, is_refuting, is_shut, judge, nothing_known,

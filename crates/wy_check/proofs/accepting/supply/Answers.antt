@@ -1,5 +1,5 @@
 use Rattle.wy_term.specs.Condition.{condition_of}
-use Rattle.wy_check_splits.specs.wy_cert.Steps.{steps_of}
+use Rattle.wy_cert.specs.Steps.{steps_of}
 use Rattle.wy_check.proofs.PlaceLemmas.{for_none, for_later, for_given, for_first}
 use Rattle.wy_check.proofs.accepting.supply.Goals as goal
 

@@ -1,8 +1,8 @@
 use Rattle.std.proofs.Common.{◌≡◌, ◌∙◌, ◌<◌, ◌++◌, ◌∷◌, [], ℕ, List, length, map, take, refl, sym, ap, arith}
 use Rattle.std.proofs.lemmas.List.{length-map}
 use Rattle.wy_term.specs.Condition.{Condition, condition_of}
-use Rattle.wy_check_splits.specs.wy_cert.declared.step.Cert.{Cert}
-use Rattle.wy_check_splits.specs.wy_cert.Steps.{Written, Certificates, steps_of, certificates_of}
+use Rattle.wy_cert.specs.declared.step.Cert.{Cert}
+use Rattle.wy_cert.specs.Steps.{Written, Certificates, steps_of, certificates_of}
 use Rattle.wy_check.specs.declared.verdict.Verdict.{Verdict}
 use Rattle.wy_check.specs.declared.verdict.Verdict.TheVariants.{Missing}
 use Rattle.wy_check.specs.Verdicts.{verdicts_on}

@@ -1,8 +1,8 @@
 use Rattle.std.proofs.Common.{◌≡◌, ◌<◌, ℕ, length, map, take}
 use Rattle.wy_term.specs.Nodes.{tree_at}
 use Rattle.wy_term.specs.Condition.{condition_of}
-use Rattle.wy_check_splits.specs.wy_cert.declared.step.Cert.{Cert}
-use Rattle.wy_check_splits.specs.wy_cert.Steps.{steps_of}
+use Rattle.wy_cert.specs.declared.step.Cert.{Cert}
+use Rattle.wy_cert.specs.Steps.{steps_of}
 use Rattle.wy_check.specs.Verdicts.{verdicts_on}
 use Rattle.wy_check.proofs.accepting.verdicts.Given as goal
 

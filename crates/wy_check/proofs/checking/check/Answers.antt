@@ -1,6 +1,6 @@
 use Rattle.std.proofs.Common.{◌∙◌, ap, length, length-take, arith}
 use Rattle.wy_term.specs.Condition.{condition_of}
-use Rattle.wy_check_splits.specs.wy_cert.Steps.{steps_of}
+use Rattle.wy_cert.specs.Steps.{steps_of}
 use Rattle.wy_vc_laws.specs.wy_check_spec.valid.Validity.{first_bad}
 use Rattle.wy_check.proofs.WalkLemmas.{answers_valid}
 use Rattle.wy_check.proofs.checking.check.Goals as goal

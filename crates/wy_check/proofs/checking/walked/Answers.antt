@@ -7,7 +7,7 @@ use Rattle.wy_term.specs.Nodes.{tree_at}
 use Rattle.wy_vc_laws.specs.wy_check_spec.judge.Node.{Node}
 use Rattle.wy_facts.proofs.StepLemmas.{stays_same, stays_on}
 use Rattle.wy_check_splits.specs.wy_check_nodes.Seen.{seen_branch}
-use Rattle.wy_check_splits.specs.wy_cert.Steps.{written}
+use Rattle.wy_cert.specs.Steps.{written}
 use Rattle.wy_vc_laws.specs.wy_check_spec.valid.Validity.{after, first_bad_by}
 use Rattle.wy_check_splits.specs.wy_check_nodes.Trail.{nodes_of, second_nodes, IsTrail}
 use Rattle.wy_check.specs.Led.{IsTurned}

@@ -2,7 +2,7 @@ use Rattle.std.proofs.Common.{◌≡◌, map, drop}
 use Rattle.wy_term.specs.Nodes.{tree_at}
 use Rattle.wy_term.specs.Condition.{condition_of}
 use Rattle.wy_facts.specs.Seen.{Stays}
-use Rattle.wy_check_splits.specs.wy_cert.Steps.{written, steps_of}
+use Rattle.wy_cert.specs.Steps.{written, steps_of}
 use Rattle.wy_vc_laws.specs.wy_check_spec.valid.Validity.{after, first_bad_by, first_bad}
 use Rattle.wy_check_splits.specs.wy_check_nodes.Trail.{nodes_of, IsTrail}
 use Rattle.wy_check.proofs.checking.walked.Given as goal
