@@ -4,14 +4,18 @@
 //! ends with the status that comes back.
 #![tactic(auto)]
 
+ghost use Rattle.wy_headline.specs.System.{IsStatus};
+
 #[cfg(test)]
 mod test_files;
 #[cfg(test)]
 mod tests;
 
-use std::env;
-use std::io::ErrorKind;
+use std::alloc::Global;
+use std::io::{ErrorKind, Write};
 use std::process::ExitCode;
+use std::thread::Threads;
+use std::{env, rt};
 use wy_headline::run_words;
 use wy_port::{DiskFiles, StdSink};
 
@@ -26,11 +30,24 @@ fn main(rt: HostRuntime) -> ExitCode {
     let Ok(words) = words(&rt) else {
         return ExitCode::from(NO_MEMORY);
     };
-    let mut files = DiskFiles::new(&rt);
-    let mut out = StdSink::new(rt.stdout());
-    let mut err = StdSink::new(rt.stderr());
-    let status = run_words(&rt, rt.alloc(), &words, &mut files, &mut out, &mut err);
-    ExitCode::from(status)
+    ExitCode::from(status(&rt, rt.alloc(), &words, rt.stdout(), rt.stderr()))
+}
+
+// Does what the words say, over the files of the system and two streams, and answers the exit status: with the clauses of
+// `run_words`, of files and sinks that tell no contents and count their faults from 0.
+fn status<R: Threads + Sync + rt::Files, O: Write + Drop, E: Write + Drop>(
+    rt: &R,
+    alloc: Global,
+    words: &[String],
+    out: O,
+    err: E,
+) -> u8
+    ensures status { IsStatus words.now result }
+{
+    let mut files = DiskFiles::new(rt);
+    let mut out = StdSink::new(out);
+    let mut err = StdSink::new(err);
+    run_words(rt, alloc, words, &mut files, &mut out, &mut err)
 }
 
 // The words behind the program's own name. Where one isn't text there are none, and so no command.
