@@ -18,8 +18,7 @@ use wy_prove::certified;
 use wy_term::{Cond, NoMemory, Terms};
 
 /// A certificate for each condition that is closed, with its number, from 1, in order: the one that is kept, where it is, of which
-/// these are the ones; and else a valid one of its search, which goes its way again with this budget of leaves. One of a search
-/// that can't be written is left out.
+/// these are the ones; and else a valid one of its search, which goes its way again with this budget of leaves.
 pub fn renewed(
     alloc: Global,
     terms: &mut Terms,
