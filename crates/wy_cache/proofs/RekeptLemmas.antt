@@ -19,11 +19,11 @@ use Rattle.wy_check.specs.wy_check_laws.reread.Grammar.{AreLines as AreStepLines
 use Rattle.wy_check.specs.wy_check_laws.reread.Writable.{AreTrees, AreWritable, IsWritableAt}
 use Rattle.wy_cache_text.proofs.FileLemmas.{read_once}
 use Rattle.wy_cache_text.proofs.RereadLemmas.{reads_what_is_written}
-use Rattle.wy_cache_text.specs.Files.{Entries}
+use Rattle.wy_cache_text.specs.Files.{Entries, IsReadAs}
 use Rattle.wy_cache_text.specs.Found.{steps_for}
 use Rattle.wy_cache_text.specs.Lines.{AreInside, lines_text}
 use Rattle.wy_cache_text.specs.Reread.{AreWritable as AreRows, IsWritable as IsRow, held_row}
-use Rattle.wy_cache_text.specs.Written.{Row, is_among, once, once_behind}
+use Rattle.wy_cache_text.specs.Written.{IsLongest, Row, is_among, once, once_behind}
 use Rattle.wy_cache.specs.Cached.{row_of, rows_of, with_row}
 use Rattle.wy_cache.specs.Kept.{IsSteps, file_with}
 use Rattle.wy_cache.specs.Key.{key_of, line_of}
@@ -182,12 +182,15 @@ found_by n (d ∷ ds) (e ∷ es) c h told among = by (found_by (n + 1) ds es c h
           found = ap (λ (b : Bool). cond b (let s : Option (List ℕ) = Some (texts line_text e.1) in s) (steps_for (map held_row (rows_by ds es)) (key_of c))) other ∙ f.found;
         }
 
+-- the text is read as the entries that were written
+pub reads_entered : (cs : List Condition) (certs : Certificates) (bytes : List ℕ) → AreEntered 1 cs certs → (w : IsLongest (rows_of cs certs) bytes) → IsReadAs bytes (map held_row w.front)
+reads_entered cs certs bytes entered w = reads_what_is_written (rows_of cs certs) bytes (subst AreRows (sym (rows_are [] cs certs entered)) (rows_writable 1 cs certs entered)) w
+
 pub keeps_what_is_written : KeepsWhatIsWritten
 keeps_what_is_written cs certs bytes es entered told w all read c among =
     let rows : rows_of cs certs ≡ rows_by cs certs = rows_are [] cs certs entered in
-    let writable = subst AreRows (sym rows) (rows_writable 1 cs certs entered) in
     let front : once (rows_of cs certs) ≡ w.front = w.all ∙ ap (λ (rs : List Row). w.front ++ rs) all ∙ nothing_behind w.front in
-    let same : map held_row w.front ≡ es = read_once bytes (map held_row w.front) es (reads_what_is_written (rows_of cs certs) bytes writable w) read in
+    let same : map held_row w.front ≡ es = read_once bytes (map held_row w.front) es (reads_entered cs certs bytes entered w) read in
     let f = found_by 1 cs certs c entered (λ d there key. told d c there among key) among in
     let here : steps_for es (key_of c) ≡ Some (texts line_text f.steps) =
     ap (λ (ds : Entries). steps_for ds (key_of c)) (sym same ∙ ap (map held_row) (sym front ∙ ap once rows))

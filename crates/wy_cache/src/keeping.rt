@@ -44,7 +44,8 @@ fn lacks_memory(fault: CertFault) -> bool
 
 // The certificate that these lines of steps are, if they are one.
 fn certificate(alloc: Global, steps: &[u8]) -> Result<Option<Cert>, NoMemory>
-    ensures value { IfOk result (λ o. MatchOption o (HasNone (IsSteps steps.now)) (λ cert. IsTheOne (IsSteps steps.now) (steps_of cert))) }
+    ensures value { IfOk result (λ o. MatchOption o (HasNone (IsSteps steps.now))
+        (λ cert. IsTheOne (IsSteps steps.now) (steps_of cert))) }
     ensures names { IfOk result (λ o. IfSome o NamesItsTerms) }
 {
     let mut file = Vec::from_slice(alloc, b"wycert 2\ncond 1\n")?;
@@ -70,7 +71,9 @@ fn kept_one(
 ) -> Result<Option<Cert>, NoMemory>
     requires cond { IsWithin (length terms.old) cond.now }
     requires shown { AreShown terms.old shown.old }
-    ensures value { (es : Entries) → IsTable es table.now → IfOk result (λ o. MatchOption o (HasNone (IsKept es (condition_of terms.old cond.now))) (λ cert. IsTheOne (IsKept es (condition_of terms.old cond.now)) (steps_of cert))) }
+    ensures value { (es : Entries) → IsTable es table.now → IfOk result (λ o. MatchOption o
+        (HasNone (IsKept es (condition_of terms.old cond.now)))
+        (λ cert. IsTheOne (IsKept es (condition_of terms.old cond.now)) (steps_of cert))) }
     ensures names { IfOk result (λ o. IfSome o NamesItsTerms) }
     ensures writable { IfOk result (λ o. IfSome o (λ cert. AreWritable (steps_of cert))) }
     ensures shown { OnOk result (AreShown terms.new shown.new) }
@@ -98,7 +101,8 @@ fn kept_among(
     conds: &[Cond],
 ) -> Result<Certs, NoMemory>
     requires conds { All (IsWithin (length terms.old)) conds.now }
-    ensures value { IfOk result (λ certs. IsTheOne (AreKept (all_held cache.now.entries.items) 1 (map (condition_of terms.old) conds.now)) (certificates_of certs)) }
+    ensures value { IfOk result (λ certs. IsTheOne (AreKept (all_held cache.now.entries.items) 1
+        (map (condition_of terms.old) conds.now)) (certificates_of certs)) }
     ensures names { IfOk result NameTheirTerms }
     ensures writable { IfOk result (λ certs. All (λ e. AreWritable (steps_of e.1)) certs.list.items) }
     ensures length { length terms.new ≡ length terms.old }
@@ -125,7 +129,8 @@ fn kept_among(
 /// the certificates take; nothing is searched.
 pub fn kept(cache: &Cache, conds: &mut Conds) -> Result<Certs, NoMemory>
     requires conds { All (IsWithin (length conds.old.terms)) conds.old.list.items }
-    ensures value { IfOk result (λ certs. IsTheOne (AreKept (all_held cache.now.entries.items) 1 (map (condition_of conds.old.terms) conds.old.list.items)) (certificates_of certs)) }
+    ensures value { IfOk result (λ certs. IsTheOne (AreKept (all_held cache.now.entries.items) 1
+        (map (condition_of conds.old.terms) conds.old.list.items)) (certificates_of certs)) }
     ensures names { IfOk result NameTheirTerms }
     ensures writable { IfOk result (λ certs. All (λ e. AreWritable (steps_of e.1)) certs.list.items) }
     ensures list { conds.new.list ≡ conds.old.list }

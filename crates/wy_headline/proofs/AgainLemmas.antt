@@ -116,16 +116,16 @@ same_line n m f sum = let rest : n - m ≡ f = omega (arith, sum) in ap (λ (x :
 -- ---- the call
 
 -- an answer with which nothing is accepted
-abbrev IsUndone : Answer → Type 0
+abbrev pub IsUndone : Answer → Type 0
 IsUndone a = a.status ≢ 0
 
-not_4 : ◌≢◌ {A = ℕ} 4 0
+pub not_4 : ◌≢◌ {A = ℕ} 4 0
 not_4 e = omega (arith, e)
 
-not_9 : ◌≢◌ {A = ℕ} 9 0
+pub not_9 : ◌≢◌ {A = ℕ} 9 0
 not_9 e = omega (arith, e)
 
-undone : Refuses IsUndone
+pub undone : Refuses IsUndone
 undone = by_status (λ (n : ℕ). n ≢ 0) (λ e. omega (arith, e)) (λ e. omega (arith, e)) not_4 (λ e. omega (arith, e)) not_9 (λ e. omega (arith, e))
 
 module _ (s : Setting) (source cache : List ℕ) (budget : ℕ) (v : Saving) (status : ℕ) (k : Sinks) where
@@ -133,7 +133,7 @@ module _ (s : Setting) (source cache : List ℕ) (budget : ℕ) (v : Saving) (st
   abbrev Told : Answer → Type 0
   Told b = (r : Renewal) × Renews s source cache budget r × (b ≡ line_of r)
 
-  told_closed : (name bytes : List ℕ) (p : Program) (es : Entries) (b : Answer) (ks : List Known) (m : ℕ) (closed : Bool) → are_closed ks ≡ closed → b ≡ renewal_answer name bytes p budget m ks closed → b.status ≡ 0 → are_closed ks ≡ true
+  pub told_closed : (name bytes : List ℕ) (p : Program) (es : Entries) (b : Answer) (ks : List Known) (m : ℕ) (closed : Bool) → are_closed ks ≡ closed → b ≡ renewal_answer name bytes p budget m ks closed → b.status ≡ 0 → are_closed ks ≡ true
   told_closed name bytes p es b ks m true is answer zero = is
   told_closed name bytes p es b ks m false is answer zero = let one : b.status ≡ 1 = ap (λ (a : Answer). a.status) answer in absurd (omega (arith, one, zero))
 
@@ -152,11 +152,11 @@ module _ (s : Setting) (source cache : List ℕ) (budget : ℕ) (v : Saving) (st
         r.answer ∙ ap (λ (x : Bool). renewal_answer source f.value p budget (count is_kept r.verdicts) r.verdicts x) closed ∙ ap written (same_line (count_of p) (count is_kept r.verdicts) split.found split.sum),
       )
 
-  shown_not : (a : Answer) → a.status ≢ 0 → Shown a status k → status ≢ 0
+  pub shown_not : (a : Answer) → a.status ≢ 0 → Shown a status k → status ≢ 0
   shown_not a apart (inl w) zero = apart (sym w.answer ∙ zero)
   shown_not a apart (inr f) zero = let five = f.answer in absurd (omega (arith, five, zero))
 
-  shown_whole : (a : Answer) → Shown a status k → status ≡ 0 → ShowsWhole a status k
+  pub shown_whole : (a : Answer) → Shown a status k → status ≡ 0 → ShowsWhole a status k
   shown_whole a (inl w) zero = w
   shown_whole a (inr f) zero = let five = f.answer in absurd (omega (arith, five, zero))
 

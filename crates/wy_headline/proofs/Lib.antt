@@ -14,6 +14,7 @@ pub mod LargeLemmas
 pub mod CandidateLemmas
 pub mod ProbeLemmas
 pub mod AgainLemmas
+pub mod AgainTwiceLemmas
 pub mod MeansLemmas
 pub mod CompleteLemmas
 pub mod due_lemmas

@@ -1,9 +1,11 @@
 -- When is the program of a source accepted with a cache, and what is told of it?
 use Rattle.std.specs.Prelude.{◌≡◌, ◌⊎◌, ℕ, suc, List, [], ◌∷◌, codes, Ok}
 use Rattle.std.specs.Fmt.{decimal}
+use Rattle.wy_port.specs.Told.{IsSaved}
 use Rattle.wy_term.specs.Condition.{Condition}
 use Rattle.wy_search_spec.specs.Tree.{IsVerdict, found as closes}
 use Rattle.wy_top.specs.wy_cache.Kept.{IsKept}
+use Rattle.wy_top.specs.wy_cache.Rekept.{FormulasAreTold}
 use Rattle.wy_top.specs.wy_cache_text.Files.{Entries}
 use Rattle.wy_top.specs.wy_cert.Only.{HasNone}
 use Rattle.wy_top.specs.wy_cert.Steps.{Written}
@@ -13,9 +15,11 @@ use Rattle.wy_top.specs.wy_top_answers.Showing.{ShowsWhole, Sinks}
 use Rattle.wy_top.specs.wy_top_answers.Steps.{IsTold, Setting, stated}
 use Rattle.wy_top.specs.wy_top_answers.declared.answer.Answer.{Answer}
 use Rattle.wy_top.specs.wy_top_answers.report.Lines.{line, save_failed}
+use Rattle.wy_top.specs.Again as again
 use Rattle.wy_top.specs.Caches.{caches}
 use Rattle.wy_top.specs.Owed.{Owes}
 use Rattle.wy_top.specs.Programs.{Program, conditions_of, count_of}
+use Rattle.wy_top.specs.Saved.{AreSpelled}
 use Rattle.wy_top.specs.Saves.{Saving}
 use Rattle.wy_top.specs.Statement.{IsRenewed}
 use Rattle.wy_headline.specs.Accepted.{IsCutShort}
@@ -62,3 +66,24 @@ pub record MeansAgain (s : Setting) (source cache : List ℕ) (budget status : �
 abbrev pub RenewalsAreRight : Type 0
 RenewalsAreRight = (s : Setting) (source cache : List ℕ) (budget : ℕ) (v : Saving) (status : ℕ) (k : Sinks)
     → IsRenewed s source cache budget v status k → MeansAgain s source cache budget status k
+
+-- ---- two calls
+
+-- of this program all conditions are kept, and none is searched
+abbrev pub all_kept : Program → Renewal
+all_kept p = record { program = p; kept = count_of p; searched = 0 }
+
+-- What a call saved that accepted the program. Where the formulas of the conditions can be written, a text is that of one formula, and all entries fit, each call that finds the source as it was and the cache as it was saved keeps all conditions, whatever its budget, and searches none.
+pub record SavesAll (s : Setting) (source cache : List ℕ) (budget : ℕ) (v : Saving) : Type 0 where
+  pub text : List ℕ
+  pub made : again.Renews s source cache budget text
+  pub saved : IsSaved v.told_before v.told_after text
+  pub keeps : AreSpelled (conditions_of made.renews.program) → FormulasAreTold → made.renews.renews.file.is.behind ≡ []
+      → (next : Setting) → next.told source ≡ s.told source → next.told cache ≡ v.told_after
+      → (other : ℕ) (w : Saving) (status : ℕ) (k : Sinks) → IsRenewed next source cache other w status k
+      → ShowsWhole (line_of (all_kept made.renews.program)) status k ⊎ IsUnsaved next cache status k
+
+-- so it is with each call with status 0, where both files are told before it
+abbrev pub AcceptedCachesKeepAll : Type 0
+AcceptedCachesKeepAll = (s : Setting) (source cache : List ℕ) (budget : ℕ) (v : Saving) (status : ℕ) (k : Sinks)
+    → IsRenewed s source cache budget v status k → status ≡ 0 → IsTold s source → IsTold s cache → v.told_before ≡ s.told cache → SavesAll s source cache budget v

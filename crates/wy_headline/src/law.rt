@@ -1,6 +1,6 @@
 //! What is known of the commands that run programs, and of the one that looks for faults.
 ghost use Rattle.wy_headline.specs.Accepted.{AcceptedIsTrue, ChecksAreRight};
-ghost use Rattle.wy_headline.specs.Again.{RenewalsAreRight};
+ghost use Rattle.wy_headline.specs.Again.{AcceptedCachesKeepAll, RenewalsAreRight};
 ghost use Rattle.wy_headline.specs.Complete.{CallsAreComplete};
 ghost use Rattle.wy_headline.specs.Headline.{RunsAreRight};
 ghost use Rattle.wy_headline.specs.Large.{LargeRunsAreRight};
@@ -50,6 +50,14 @@ pub fn probes_are_right()
 /// memory (9).
 pub fn renewals_are_right()
     ensures right { RenewalsAreRight }
+{}
+
+/// Two calls of `again`, one behind the other. Where the first ends with status 0, both files were told before it and all entries
+/// fit into what it saved, one that finds the source as it was and the cache as it was saved tells that all conditions are kept
+/// and none is searched, at each budget, but for a failed load (4), a failed save or sink (5) and want of memory (9). It asks that
+/// the formulas of the conditions can be written and that a text is that of one formula.
+pub fn accepted_caches_keep_all()
+    ensures keep { AcceptedCachesKeepAll }
 {}
 
 /// What the clause of `run_words` says by the steps of the code means all of this.

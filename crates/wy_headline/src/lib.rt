@@ -23,7 +23,7 @@ pub use accepted_runs::{
 };
 pub use commands::run_words;
 pub use law::{
-    accepted_conditions_are_true, big_runs_are_right, calls_are_complete,
+    accepted_caches_keep_all, accepted_conditions_are_true, big_runs_are_right, calls_are_complete,
     calls_mean_what_programs_do, checks_are_right, probes_are_right, renewals_are_right,
     runs_are_right,
 };

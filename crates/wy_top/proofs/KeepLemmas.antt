@@ -1,10 +1,11 @@
 -- What a cache with all conditions of a program keeps.
-use Rattle.std.proofs.Common.{◌≡◌, ◌∙◌, ◌<◌, ◌≤◌, ◌+◌, ◌&&◌, ℕ, suc, List, [], ◌∷◌, length, Bool, true, false, cond, inl, inr, map, ◌++◌, refl, sym, ap, subst, arith}
-use Rattle.wy_batch.specs.Known.{Known, count, is_closed}
-use Rattle.wy_cache.proofs.RekeptLemmas.{keeps_what_is_written}
+use Rattle.std.proofs.Common.{◌≡◌, ◌∙◌, ◌+◌, ◌&&◌, ℕ, List, [], ◌∷◌, length, Bool, true, false, inl, inr, map, ◌++◌, refl, sym, ap, subst}
+use Rattle.wy_batch.specs.Known.{Known, is_closed}
+use Rattle.wy_cache.proofs.RekeptLemmas.{keeps_what_is_written, reads_entered}
 use Rattle.wy_cache.proofs.TellingLemmas.{texts_tell}
-use Rattle.wy_cache.specs.Rekept.{AllKept, AreEntered, AreFormulas, AreTold, FormulasAreTold, IsAmong}
+use Rattle.wy_cache.specs.Rekept.{AreEntered, AreFormulas, AreTold, FormulasAreTold, IsAmong}
 use Rattle.wy_cache_text.specs.Files.{Entries}
+use Rattle.wy_cache_text.specs.Reread.{held_row}
 use Rattle.wy_cert.specs.Steps.{Certificates}
 use Rattle.wy_prove.proofs.wy_prove_writable_proofs.TreeLemmas.{valid_is_one_tree}
 use Rattle.wy_term.specs.Condition.{Condition, Entry}
@@ -17,7 +18,7 @@ use Rattle.wy_vc.specs.wy_vc_spec.Programs.{conditions_of as what_is_owed, setti
 use Rattle.wy_vc.specs.wy_vc_spec.Values.{Setting}
 use Rattle.wy_top.proofs.WritableLemmas.{renewed_valid}
 use Rattle.wy_top.specs.Acceptance.{are_closed}
-use Rattle.wy_top.specs.Caches.{AreSaved, AreSeen, IsSavedRow, IsSeen, entry, is_kept, kept, no_entry, searched}
+use Rattle.wy_top.specs.Caches.{AreSaved, IsSavedRow, entry, no_entry}
 use Rattle.wy_top.specs.Programs.{conditions_of}
 use Rattle.wy_top.specs.Saved.{AreSpelled, RenewedKeepsAll}
 
@@ -36,25 +37,6 @@ all_entered es n (c ∷ cs) (k ∷ ks) certs h closed spelled = by (is_closed k.
         subst (AreEntered n (c ∷ cs)) (sym same)
         (refl, record { formulas = spelled.0; valid = renewed_valid es c k.end steps g; trees = valid_is_one_tree c steps (renewed_valid es c k.end steps g); writable = w }, later others rest all)
     by true is all later others (no_entry apart same) rest = absurd cc
-
--- ---- where all are kept
-
-record IsWhole (cs : List Condition) (ks : List Known) : Type 0 where
-  many : count is_kept ks ≡ length cs
-  closed : are_closed ks ≡ true
-
-one_whole : (es : Entries) (budget : ℕ) (c : Condition) (cs : List Condition) (k : Known) (ks : List Known) → AllKept es (c ∷ cs) → IsSeen es budget c k → IsWhole cs ks → IsWhole (c ∷ cs) (k ∷ ks)
-one_whole es budget c cs k ks all (kept steps h bad end) w = record {
-  many = ap (λ (b : Bool). cond b (suc (count is_kept ks)) (count is_kept ks)) (ap is_kept end) ∙ ap suc w.many;
-  closed = ap (λ (b : Bool). b && are_closed ks) (ap is_closed end) ∙ w.closed;
-}
-one_whole es budget c cs k ks all (searched never bad end) w = let h = all c (inl refl) in absurd (never.none h.0 h.1)
-
-all_whole : (es : Entries) (budget : ℕ) (cs : List Condition) (ks : List Known) → AllKept es cs → AreSeen es budget cs ks → IsWhole cs ks
-all_whole es budget [] [] all h = record { many = refl; closed = refl }
-all_whole es budget [] (k ∷ ks) all h = absurd h
-all_whole es budget (c ∷ cs) [] all h = absurd h
-all_whole es budget (c ∷ cs) (k ∷ ks) all h = one_whole es budget c cs k ks all h.0 (all_whole es budget cs ks (λ d among. all d (inr among)) h.1)
 
 -- ---- texts tell the conditions of a program
 
@@ -88,9 +70,9 @@ module _ {N : Type 0} (s : Setting N) where
 -- ---- the law
 
 pub renewed_keeps_all : RenewedKeepsAll
-renewed_keeps_all p budget es text f full spelled tell ds read other ks seen =
+renewed_keeps_all p budget es text f full spelled tell =
     let cs = conditions_of p in
     let told = all_told (setting_of (numbered_core p.core) p.flow) tell (what_is_owed p.core p.flow) spelled in
     let entered = all_entered es 1 cs f.verdicts f.certificates f.saved full.closed spelled in
-    let w = all_whole ds other cs ks (keeps_what_is_written cs f.certificates text ds entered told f.is full.fits read) seen in
-    (w.many, w.closed)
+    let read = reads_entered cs f.certificates text entered f.is in
+    record { entries = map held_row f.is.front; read = read; kept = keeps_what_is_written cs f.certificates text (map held_row f.is.front) entered told f.is full.fits read }

@@ -1,13 +1,11 @@
 -- What do the files come to that `prove` and `again` save, where they are supplied?
-use Rattle.std.specs.Prelude.{◌≡◌, ℕ, List, [], ◌∷◌, ◌++◌, length, true}
-use Rattle.wy_batch.specs.Known.{Known, count}
-use Rattle.wy_cache.specs.Rekept.{AreFormulas, FormulasAreTold}
+use Rattle.std.specs.Prelude.{◌≡◌, ℕ, List, [], ◌∷◌, ◌++◌, true}
+use Rattle.wy_cache.specs.Rekept.{AllKept, AreFormulas, FormulasAreTold}
 use Rattle.wy_cache_text.specs.Files.{Entries, IsReadAs}
 use Rattle.wy_term.specs.Condition.{Condition}
 use Rattle.wy_top.specs.Acceptance.{IsAccepted, are_closed}
 use Rattle.wy_top.specs.Again.{IsCacheOf}
-use Rattle.wy_top.specs.Caches.{AreSeen, is_kept}
-use Rattle.wy_top.specs.Programs.{Program, conditions_of, count_of}
+use Rattle.wy_top.specs.Programs.{Program, conditions_of}
 use Rattle.wy_top.specs.Proofs.{IsProofFile}
 
 -- Where the search closed all leaves of each condition, the program is accepted by the certificates of the file, at each budget, and no line says that one of them isn't valid.
@@ -26,8 +24,12 @@ pub record IsFull (p : Program) (budget : ℕ) (es : Entries) (text : List ℕ) 
   pub closed : are_closed f.verdicts ≡ true
   pub fits : f.is.behind ≡ []
 
--- Where all conditions of a program are closed and their entries fit into the cache that is saved, its formulas can be written, and a text is that of one formula, the entries that it is read as keep all of them, whatever the budget, and none is searched.
+-- the text is read as these entries, and each of the program's conditions is kept by them
+pub record KeepsAll (p : Program) (text : List ℕ) : Type 0 where
+  pub entries : Entries
+  pub read : IsReadAs text entries
+  pub kept : AllKept entries (conditions_of p)
+
+-- Where all conditions of a program are closed and their entries fit into the cache that is saved, its formulas can be written, and a text is that of one formula, the entries that it is read as keep all of them.
 abbrev pub RenewedKeepsAll : Type 0
-RenewedKeepsAll =
-    (p : Program) (budget : ℕ) (es : Entries) (text : List ℕ) (f : IsCacheOf p budget es text) → IsFull p budget es text f → AreSpelled (conditions_of p) → FormulasAreTold
-    → (ds : Entries) → IsReadAs text ds → (other : ℕ) (ks : List Known) → AreSeen ds other (conditions_of p) ks → (count is_kept ks ≡ count_of p) × (are_closed ks ≡ true)
+RenewedKeepsAll = (p : Program) (budget : ℕ) (es : Entries) (text : List ℕ) (f : IsCacheOf p budget es text) → IsFull p budget es text f → AreSpelled (conditions_of p) → FormulasAreTold → KeepsAll p text

@@ -14,8 +14,8 @@ pub fn saved_certificates_are_accepted()
     ensures accepted { SavedIsAccepted }
 {}
 
-/// Where `again` saved a cache with all conditions of a program, another `again` with it keeps all of them, at each budget, and searches
-/// none. It asks that the conditions' formulas can be written and that a text is that of one formula.
+/// Where `again` saved a cache with all conditions of a program, what it is read as keeps all of them. It asks that the conditions'
+/// formulas can be written and that a text is that of one formula.
 pub fn renewed_caches_keep_all()
     ensures kept { RenewedKeepsAll }
 {}
