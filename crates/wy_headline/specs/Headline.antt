@@ -8,9 +8,9 @@ use Rattle.wy_top.specs.wy_top_answers.declared.answer.Answer.{Answer}
 use Rattle.wy_top.specs.Acceptance.{Acceptance}
 use Rattle.wy_top.specs.Launching.{run_steps, starts}
 use Rattle.wy_top.specs.Statement.{IsRun}
-use Rattle.wy_gen_sources.specs.code.Dead.{RunsKeep}
 use Rattle.wy_value.specs.Datum.{Datum}
 use Rattle.wy_headline.specs.Accepted.{AcceptsFile, AreTold, IsCutShort}
+use Rattle.wy_headline.specs.Alive.{NothingDead}
 use Rattle.wy_headline.specs.Runs.{EndsDone, Entry, IsDoneWithin, MeetsPostcondition, NeverFaults, ShowsCutOff, ShowsFailed, ShowsResult, ShowsSpent}
 use Rattle.wy_headline.specs.Started.{IsStarted}
 
@@ -49,8 +49,8 @@ pub record Headline (s : Setting) (source cert name arguments : List ℕ) (budge
   pub refused : run ≡ None → (a : Answer) × HasNoRun s source cert name arguments budget a × Shown a status k
   -- It never faults.
   pub never_faults : IfSome run NeverFaults
-  -- Nothing dead: in each run of its code, wherever the next instruction is no `Clear`, a register that holds a list or a record is read before it is changed, on some path from there.
-  pub nothing_dead : IfSome run (λ e. RunsKeep e.core)
+  -- Nothing dead: in each run of its code, wherever the next instruction is no `Clear`, a register that holds a list or a record is read before it is changed, on some path from there; and each node of the machine is reached from such a register, and there are at most as many as lists and records in registers, counted with repeats.
+  pub nothing_dead : IfSome run (λ e. NothingDead e.core)
   -- Result and output: at status 0 the program is done, and out took what it printed and the text of its value. The copies that are told were counted in its run.
   pub result : IfSome run (λ e. status ≡ 0 → ShowsResult e lines stats steps k)
   -- Postcondition: what the program gives is in its type, and each ensures clause is true of it.

@@ -10,5 +10,6 @@ pub mod Means
 pub mod Complete
 -- what is known of a call over real files and streams
 pub mod System
+pub mod Alive
 pub mod Sources
 pub mod due

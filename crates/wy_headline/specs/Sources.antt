@@ -11,11 +11,11 @@ use Rattle.wy_sound.specs.wy_vc_laws.shown.Certified.{AllHold}
 use Rattle.wy_sound.specs.Sound.{Shown}
 use Rattle.wy_top.specs.wy_mach_run.sound.Runs.{RunsRightly, run_by}
 use Rattle.wy_top.specs.wy_top_source.Sources.{IsProgram}
-use Rattle.wy_gen_sources.specs.code.Dead.{RunsKeep}
 use Rattle.wy_top.specs.wy_gen_sources.sourced_code.Cores.{AsCodeAsks}
 use Rattle.wy_value.specs.Seen.{seen, seen_items}
 use Rattle.wy_value.specs.Values.{AreValues}
 use Rattle.wy_value.specs.declared.value.Value.{Value}
+use Rattle.wy_headline.specs.Alive.{NothingDead}
 
 -- a program of which nothing is left to show, and which is such as the law of code asks
 pub record IsShown (core : Core ℕ) (flow : List Ty) : Type 0 where
@@ -38,6 +38,6 @@ abbrev pub AcceptedSourcesRunRightly : Type 0
 AcceptedSourcesRunRightly =
     (place : ℕ → ℕ) (bytes : List ℕ) (core : Core ℕ) (flow : List Ty) → IsProgram bytes core flow → AllHold (owed_conditions core flow) → (code : Code) → code ≡ code_of core → CodeRunsRightly place core code
 
--- in each run of the code of each source, on whatever arguments: whenever the next instruction of a frame is no `Clear`, each register of the frame that holds a list or a record is live at the frame's place
+-- nothing dead is kept in the code of each source
 abbrev pub SourcesKeepNothingDead : Type 0
-SourcesKeepNothingDead = (bytes : List ℕ) (core : Core ℕ) (flow : List Ty) → IsProgram bytes core flow → RunsKeep core
+SourcesKeepNothingDead = (bytes : List ℕ) (core : Core ℕ) (flow : List Ty) → IsProgram bytes core flow → NothingDead core

@@ -23,7 +23,9 @@ pub fn accepted_sources_run_rightly()
 {}
 
 /// Nothing dead is kept in the code of a source, accepted or not: in each run of it, on whatever arguments, wherever the
-/// next instruction of a frame is no `Clear`, each register that holds a list or a record is live at the frame's place.
+/// next instruction of a frame is no `Clear`, each register that holds a list or a record is live at the frame's place. And
+/// each node of a machine that shows a state of the run is reached from such a register, and there are at most as many nodes
+/// as lists and records in the registers, counted with repeats.
 pub fn sources_keep_nothing_dead()
     ensures keep { SourcesKeepNothingDead }
 {}

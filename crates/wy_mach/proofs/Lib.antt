@@ -23,6 +23,7 @@ pub mod WriteLemmas
 pub mod TextLemmas
 pub mod PrintLemmas
 pub mod StateLemmas
+pub mod HeldLemmas
 pub mod TurnLemmas
 pub mod CallLemmas
 pub mod SharedTurnLemmas

@@ -17,6 +17,7 @@ pub mod Texts
 pub mod Printed
 -- the states of the machine
 pub mod States
+pub mod Held
 -- what a turn and a run do
 pub mod Running
 -- the step on shared nodes, and turns as steps

@@ -14,3 +14,5 @@ pub mod CanRunLemmas
 mod WritingLemmas
 mod CountLemmas
 pub mod sound_lemmas
+-- passed on to the crates above
+pub use Rattle.wy_mach.proofs as wy_mach_proofs
