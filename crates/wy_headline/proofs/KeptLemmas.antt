@@ -42,7 +42,7 @@ module _ (code : Code) (m : Map) where
   live_below [] fs key keep below = absurd below
   live_below (c ∷ cs) [] key keep below = absurd below
   live_below (c ∷ cs) (f ∷ fs) key keep (inl by) = inl (live_by c.frame f.frame.registers.items key keep.0 by)
-  live_below (c ∷ cs) (f ∷ fs) key keep (inr below) = inr (live_below cs fs key keep.1.1 below)
+  live_below (c ∷ cs) (f ∷ fs) key keep (inr below) = inr (live_below cs fs key keep.2 below)
 
 keeps_alive : (code : Code) (k : Machine) (fr : Frame) (callers : List Caller) → FrameKeeps code fr → CallersKeep code callers → HoldsAll k fr callers → KeepsAlive code k fr callers
 keeps_alive code k fr callers keeps keep holds = record { reached = λ key is. on key (holds.reached key is); few = holds.few }

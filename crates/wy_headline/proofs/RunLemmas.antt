@@ -1,12 +1,14 @@
 -- What a run shows, said by what the program does.
-use Rattle.std.proofs.Common.{◌≡◌, ◌⊎◌, inl, inr, ◌∙◌, ℕ, ◌+◌, List, Bool, Option, is_some, refl, sym, ap, arith}
+use Rattle.std.proofs.Common.{◌≡◌, ◌⊎◌, inl, inr, ◌∙◌, ℕ, ◌+◌, List, Bool, Option, None, is_some, refl, sym, ap, arith}
 use Rattle.wy_top.specs.wy_top_answers.Showing.{Sinks}
 use Rattle.wy_port.specs.Taken.{with_taken}
 use Rattle.wy_top.specs.wy_eval_exprs.Settings.{here}
-use Rattle.wy_top.specs.wy_mach_run.Running.{WritesFront}
+use Rattle.wy_top.specs.wy_code_spec.compiled.Programs.{code_of}
+use Rattle.wy_top.specs.wy_mach_run.Running.{WritesFront, most_holders}
 use Rattle.wy_top.specs.wy_mach_run.sound.Runs.{IsRight}
 use Rattle.wy_top.specs.wy_code_spec.step.Step.{State, Runs, Ended, Stuck}
 use Rattle.wy_top.specs.Runs as code
+use Rattle.wy_top.proofs.wy_mach_run_proofs.wy_mach_proofs.SharedRunLemmas.{runs_counted}
 use Rattle.wy_sound.specs.wy_sem.Evaluation.{evaluate}
 use Rattle.wy_sound.specs.wy_sem.Growth.{Returns, ending}
 use Rattle.wy_sound.specs.wy_sem.Meter.{Meter, Done}
@@ -43,7 +45,7 @@ module _ (e : Entry) (lines : List ℕ) (stats : Bool) (steps status : ℕ) (k :
 
   pub result_of : (st : State) → IsOf e steps st → Shows st → status ≡ 0 → ShowsResult e lines stats steps k
   result_of (Runs fr callers output) h (code.finished copies nodes zero took counts err) is = absurd took
-  result_of (Ended v output) h (code.finished copies nodes zero took counts err) is = record { value = v; output = output; done = h; out = took.1; copies = copies; nodes = nodes; left = took.0; counted = counts; err = err }
+  result_of (Ended v output) h (code.finished copies nodes zero took counts err) is = record { value = v; output = output; done = h; out = took.1; copies = copies; nodes = nodes; left = took.0; counted = counts; exactly = runs_counted (code_of e.core) e.number e.values steps most_holders None copies nodes counts; err = err }
   result_of Stuck h (code.finished copies nodes zero took counts err) is = absurd h
   result_of st h (code.spends eight took err) is = absurd (omega (arith, eight, is))
   result_of st h (code.sink_failed five rose took err) is = absurd (omega (arith, five, is))

@@ -7,7 +7,8 @@ use Rattle.wy_top.specs.wy_eval_exprs.Settings.{here}
 use Rattle.wy_port.specs.Count.{Rose}
 use Rattle.wy_port.specs.Taken.{TookFront, with_taken}
 use Rattle.wy_top.specs.wy_top_answers.report.Lines.{steps_spent}
-use Rattle.wy_top.specs.wy_mach_run.Running.{Counts, Leaves, written}
+use Rattle.wy_top.specs.wy_mach.SharedTurns.{AreCounts}
+use Rattle.wy_top.specs.wy_mach_run.Running.{Counts, Leaves, most_holders, written}
 use Rattle.wy_sound.specs.wy_sem.Evaluation.{evaluate}
 use Rattle.wy_sound.specs.wy_sem.Meter.{Meter, Done}
 use Rattle.wy_sound.specs.wy_sem.Operations.{or_null}
@@ -69,6 +70,8 @@ pub record ShowsResult (e : Entry) (lines : List ℕ) (stats : Bool) (steps : �
   pub nodes : ℕ
   pub left : Leaves copies nodes value
   pub counted : IsCounted e steps copies nodes
+  -- where no state of the run takes a node past the most holders, the copies are the nodes that its steps copied, and the nodes those that the result leads to
+  pub exactly : AreCounts (code_of e.core) e.number e.values steps most_holders copies nodes
   pub err : k.err_after ≡ with_taken k.err_before (done_text lines stats copies nodes)
 
 -- it isn't done at any number of ticks for which there were steps enough: out took what was printed

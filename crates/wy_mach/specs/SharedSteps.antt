@@ -244,11 +244,6 @@ pub record ShareStep (code : Code) (st new : Shared) (copied : ℕ) : Type 0 whe
   pub no_dead : HasNoDead new
   pub shapes : new.shapes ≡ st.shapes
 
--- so many steps, in which so many nodes are copied in all
-abbrev pub ShareSteps : Code → ℕ → Shared → Shared → ℕ → Type 0
-ShareSteps code zero first last copied = (last ≡ first) × (copied ≡ 0)
-ShareSteps code (suc n) first last copied = (st : Shared) × (before now : ℕ) × ShareSteps code n first st before × ShareStep code st last now × (copied ≡ before + now)
-
 -- ---- where the cap isn't met
 
 -- the part holds no key, or one that stays within the cap with so many holders more

@@ -1,12 +1,12 @@
 -- What turns of the machine do to its registers and its heap, and that these are steps on shared nodes.
-use Rattle.std.specs.Prelude.{◌≡◌, ◌⊎◌, ◌≤◌, ℕ, zero, suc, ◌+◌, ◌-◌, pos, List, [], ◌∷◌, ◌++◌, length, map, true, false, Option, Some, None, Vec, slice_set, slice_get, vec_capacity, ⊤}
+use Rattle.std.specs.Prelude.{◌≡◌, ◌⊎◌, ◌≤◌, ◌<◌, ℕ, zero, suc, ◌+◌, ◌-◌, pos, List, [], ◌∷◌, ◌++◌, length, map, true, false, Option, Some, None, Vec, slice_set, slice_get, vec_capacity, ⊤}
 use Rattle.std.specs.declared.alloc.Global.{Global}
 use Rattle.wy_value.specs.Datum.{Datum, Whole}
 use Rattle.wy_heap.specs.declared.part.Part.{Part}
 use Rattle.wy_heap.specs.declared.part.Part.TheVariants.{Null}
 use Rattle.wy_heap.specs.declared.part.Slot.TheVariants.{Field}
 use Rattle.wy_heap.specs.declared.heap.Heap.{Heap}
-use Rattle.wy_heap.specs.Nodes.{list_form, map_of, size}
+use Rattle.wy_heap.specs.Nodes.{Map, list_form, map_of, size}
 use Rattle.wy_heap.specs.Parts.{scalar_part, IsBelow}
 use Rattle.wy_heap.specs.Slots.{part_at, item_at, step_of}
 use Rattle.wy_heap.specs.Standing.{Stands}
@@ -30,8 +30,8 @@ use Rattle.wy_mach.specs.declared.machine.Turn.TheVariants as turn
 use Rattle.wy_mach.specs.declared.runs.RunEnd.{RunEnd}
 use Rattle.wy_mach.specs.declared.runs.RunEnd.TheVariants as run_end
 use Rattle.wy_mach.specs.States.{IsMachine, ShowsState, callers_of}
-use Rattle.wy_mach.specs.Running.{Starts}
-use Rattle.wy_mach.specs.SharedSteps.{Waiting, Shared, IsFirst, ShareStep, ShareSteps, HasRoomNext, EndsIn, instr_next}
+use Rattle.wy_mach.specs.Running.{Starts, state_behind}
+use Rattle.wy_mach.specs.SharedSteps.{Waiting, Shared, IsFirst, ShareStep, HasRoomNext, EndsIn, instr_next}
 
 -- ---- inside a turn
 
@@ -262,20 +262,59 @@ pub record RanShared (code : Code) (entry : ℕ) (args : List Datum) (steps cap 
   pub begins : IsFirst code entry args (state_of first)
   pub done : DoneShared code first steps end
 
--- at each of these turns the holders that the instruction adds take no key past the cap
-abbrev pub HaveRoom : (code : Code) (n : ℕ) (first last : Machine) → FollowsAlong code n first last → Type 0
-HaveRoom code zero first last along = ⊤
-HaveRoom code (suc n) first last along = HaveRoom code n first along.0 along.1 × HasRoomNext along.0.heap.cap (instr_next code (state_of along.0)) (state_of along.0)
+-- ---- what is counted
 
--- where no turn of a run meets the cap, its turns are steps on shared nodes from the run's first state on, in which each node of an argument has one holder; `copies` is the number of nodes that these copied, up to 2^64 - 1, and `nodes` that of the keys that the result leads to in the last state
-pub record IsCounted (code : Code) (entry : ℕ) (args : List Datum) (first last : Machine) (made copies nodes : ℕ) : Type 0 where
+-- the frame that waits is this one of the step on values
+pub record ShowsWaiting (m : Map) (c : step.Caller) (w : Waiting) : Type 0 where
+  pub routine : w.routine ≡ c.frame.routine
+  pub at : w.at ≡ c.frame.at
+  pub registers : Shows m c.frame.registers w.registers
+  pub target : w.target ≡ c.target
+
+abbrev pub ShowWaiting : Map → List step.Caller → List Waiting → Type 0
+ShowWaiting m [] ws = ws ≡ []
+ShowWaiting m (c ∷ cs) [] = ⊥
+ShowWaiting m (c ∷ cs) (w ∷ ws) = ShowsWaiting m c w × ShowWaiting m cs ws
+
+pub record ShowsFrames (st : Shared) (fr : step.Frame) (callers : List step.Caller) : Type 0 where
+  pub routine : st.routine ≡ fr.routine
+  pub next : st.next ≡ fr.at
+  pub registers : Shows st.nodes fr.registers st.registers
+  pub waiting : ShowWaiting st.nodes callers st.waiting
+
+-- the state on shared nodes is this one of the step on values; of what has no step nothing is said
+abbrev pub IsStateOf : Shared → step.State → Type 0
+IsStateOf st (step.Runs fr callers output) = ShowsFrames st fr callers
+IsStateOf st (step.Ended v output) = ⊥
+IsStateOf st step.Stuck = ⊤
+
+-- so many steps of the run of a routine on arguments, in which so many nodes are copied in all: each is one on shared nodes, to the next state of the step on values, which says each scalar
+abbrev pub RunSteps : Code → ℕ → List Datum → ℕ → Shared → Shared → ℕ → Type 0
+RunSteps code entry args zero first last copied = (last ≡ first) × (copied ≡ 0)
+RunSteps code entry args (suc n) first last copied =
+    (st : Shared) × (before now : ℕ) × RunSteps code entry args n first st before × ShareStep code st last now × IsStateOf last (state_behind code entry args (suc n)) × (copied ≡ before + now)
+
+-- in no state of the run before so many steps the holders that its next instruction adds take a key past the cap
+abbrev pub NonePast : Code → ℕ → List Datum → ℕ → Shared → ℕ → Type 0
+NonePast code entry args cap first many = (n : ℕ) (st : Shared) (copied : ℕ) → n < many → RunSteps code entry args n first st copied → HasRoomNext cap (instr_next code st) st
+
+-- `copies` is the number of nodes that so many steps copied, up to 2^64 - 1, and `nodes` that of the keys that the result leads to in the last state
+pub record IsCounted (code : Code) (entry : ℕ) (args : List Datum) (first : Shared) (made copies nodes : ℕ) : Type 0 where
   pub copied : ℕ
-  pub begins : IsFirst code entry args (state_of first)
-  pub steps : ShareSteps code made (state_of first) (state_of last) copied
+  pub last : Shared
+  pub along : RunSteps code entry args made first last copied
   pub copies_are : copies ≡ raised 0 copied
-  pub ends : EndsIn code (state_of last) nodes
+  pub ends : EndsIn code last nodes
 
+-- the run ends behind so many steps from its first state, in which each node of an argument has one holder; where none of its states takes a key past the cap, its copies and nodes are these
+pub record AreCounts (code : Code) (entry : ℕ) (args : List Datum) (steps cap copies nodes : ℕ) : Type 0 where
+  pub first : Shared
+  pub begins : IsFirst code entry args first
+  pub made : ℕ
+  pub within : made + 1 ≤ steps
+  pub counted : NonePast code entry args cap first made → IsCounted code entry args first made copies nodes
+
+-- so are the counts that the machine's run tells
 abbrev pub RunsAreCounted : Type 0
 RunsAreCounted =
-    (code : Code) (entry : ℕ) (args : List Datum) (steps cap : ℕ) (text : Option (Vec ℕ Global)) (copies nodes : ℕ) (ran : RanShared code entry args steps cap (run_end.Done text copies nodes))
-    → HaveRoom code ran.done.made ran.first ran.done.last ran.done.along → IsCounted code entry args ran.first ran.done.last ran.done.made copies nodes
+    (code : Code) (entry : ℕ) (args : List Datum) (steps cap : ℕ) (text : Option (Vec ℕ Global)) (copies nodes : ℕ) → RanShared code entry args steps cap (run_end.Done text copies nodes) → AreCounts code entry args steps cap copies nodes
