@@ -1,0 +1,3 @@
+pub mod CodeLemmas
+pub mod NodeLemmas
+pub mod WithinLemmas
