@@ -24,7 +24,7 @@ use Rattle.wy_mach.specs.declared.frames.Caller as of_callers
 -- ---- lists of keys
 
 times-append : (k : ℕ) (js is : List ℕ) → times k (js ++ is) ≡ times k js + times k is
-times-append k [] is = refl
+times-append k [] is = omega arith
 times-append k (j ∷ js) is = omega (arith, times-append k js is)
 
 times_own : (k : ℕ) (js : List ℕ) → times k (k ∷ js) ≡ 1 + times k js
@@ -46,7 +46,9 @@ times_lower k (zero ∷ js) = times_other (suc k) zero js (λ e. omega (arith, e
 times_lower k (suc j ∷ js) = elim (cases_eq j k) [
   | inl same ↦
       let up : suc j ≡ suc k = ap suc same in
-      ap (λ (i : ℕ). times (suc k) (i ∷ js)) up ∙ times_own (suc k) js ∙ ap suc (times_lower k js) ∙ sym (ap (λ (i : ℕ). times k (i ∷ lower js)) same ∙ times_own k (lower js))
+      let above : times (suc k) (suc j ∷ js) ≡ 1 + times (suc k) js = ap (λ (i : ℕ). times (suc k) (i ∷ js)) up ∙ times_own (suc k) js in
+      let below : times k (j ∷ lower js) ≡ 1 + times k (lower js) = ap (λ (i : ℕ). times k (i ∷ lower js)) same ∙ times_own k (lower js) in
+      above ∙ ap (λ (n : ℕ). 1 + n) (times_lower k js) ∙ sym below
   | inr differ ↦ times_other (suc k) (suc j) js (λ e. differ (omega (arith, e))) ∙ times_lower k js ∙ sym (times_other k j (lower js) differ)
 ]
 
@@ -84,8 +86,9 @@ module _ (m : Map) where
     walk_fields (field n d fs) (p ∷ ps) h = walk d p h.0 ++ walk_fields fs ps h.1
 
   mutual
+    unfolding walk walk_all walk_fields
+
     walk_length : (d : Datum) (p : Part) (h : Means m d p) → length (walk d p h) ≡ larges d
-    unfolding walk
     walk_length datum.Null p h = refl
     walk_length (datum.Truth b) p h = refl
     walk_length (datum.Whole z) p h = refl
@@ -93,13 +96,11 @@ module _ (m : Map) where
     walk_length (datum.Record fs) p h = ap suc (fields_length fs h.parts h.pass_all)
 
     all_length : (ds : Data) (ps : List Part) (h : MeanAll m ds ps) → length (walk_all ds ps h) ≡ larges_all ds
-    unfolding walk_all
     all_length no_items ps h = refl
     all_length (item d ds) [] h = absurd h
     all_length (item d ds) (p ∷ ps) h = omega (arith, length-append (walk d p h.0) (walk_all ds ps h.1), walk_length d p h.0, all_length ds ps h.1)
 
     fields_length : (fs : Fields) (ps : List Part) (h : MeanFields m fs ps) → length (walk_fields fs ps h) ≡ larges_fields fs
-    unfolding walk_fields
     fields_length no_fields ps h = refl
     fields_length (field n d fs) [] h = absurd h
     fields_length (field n d fs) (p ∷ ps) h = omega (arith, length-append (walk d p h.0) (walk_fields fs ps h.1), walk_length d p h.0, fields_length fs ps h.1)
@@ -171,8 +172,9 @@ module _ (m : Map) where
   closed_none j k b some is more = absurd (omega (arith, some))
 
   mutual
+    unfolding walk walk_all walk_fields
+
     walk_closed : (d : Datum) (p : Part) (h : Means m d p) → IsClosed (walk d p h)
-    unfolding walk
     walk_closed datum.Null p h = closed_none
     walk_closed (datum.Truth b) p h = closed_none
     walk_closed (datum.Whole z) p h = closed_none
@@ -182,13 +184,11 @@ module _ (m : Map) where
         closed_node h.key (record { form = record_form (names_of fs); parts = h.parts }) (walk_fields fs h.parts h.pass_all) h.is_node (fields_held fs h.parts h.pass_all) (fields_closed fs h.parts h.pass_all)
 
     all_closed : (ds : Data) (ps : List Part) (h : MeanAll m ds ps) → IsClosed (walk_all ds ps h)
-    unfolding walk_all
     all_closed no_items ps h = closed_none
     all_closed (item d ds) [] h = absurd h
     all_closed (item d ds) (p ∷ ps) h = closed_append (walk d p h.0) (walk_all ds ps h.1) (walk_closed d p h.0) (all_closed ds ps h.1)
 
     fields_closed : (fs : Fields) (ps : List Part) (h : MeanFields m fs ps) → IsClosed (walk_fields fs ps h)
-    unfolding walk_fields
     fields_closed no_fields ps h = closed_none
     fields_closed (field n d fs) [] h = absurd h
     fields_closed (field n d fs) (p ∷ ps) h = closed_append (walk d p h.0) (walk_fields fs ps h.1) (walk_closed d p h.0) (fields_closed fs ps h.1)
