@@ -92,8 +92,8 @@ module _ (m : Map) where
     walk_length datum.Null p h = refl
     walk_length (datum.Truth b) p h = refl
     walk_length (datum.Whole z) p h = refl
-    walk_length (datum.Array items) p h = ap suc (all_length items h.parts h.pass_all)
-    walk_length (datum.Record fs) p h = ap suc (fields_length fs h.parts h.pass_all)
+    walk_length (datum.Array items) p h = omega (arith, all_length items h.parts h.pass_all)
+    walk_length (datum.Record fs) p h = omega (arith, fields_length fs h.parts h.pass_all)
 
     all_length : (ds : Data) (ps : List Part) (h : MeanAll m ds ps) → length (walk_all ds ps h) ≡ larges_all ds
     all_length no_items ps h = refl
