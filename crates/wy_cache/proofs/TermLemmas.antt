@@ -7,11 +7,8 @@ use Rattle.wy_term.specs.Folding.{binder, folded}
 use Rattle.wy_term.specs.Sorts.{Sort, int_sort, val_sort, formula_sort, sort_of}
 use Rattle.wy_term.specs.Term.{DataKind, null_kind, bool_kind, int_kind, array_kind, record_kind, Symbol, Term, Of, Parts, no_parts, part}
 use Rattle.wy_term.specs.Term as term
-use Rattle.wy_term.specs.wy_data.scan.Front.{IsBehind, NotBehind, heads, is_word_byte}
-use Rattle.wy_term_text.specs.reread.Folded.{IsFolded}
-use Rattle.wy_term_text.specs.reread.Shown.{IsOf}
+use Rattle.wy_term.specs.wy_data.scan.Front.{heads, is_word_byte}
 use Rattle.wy_term_text.specs.show.Text.{text_of}
-use Rattle.wy_term_text.specs.spell.Fields.{IsFieldRead, IsKindFieldRead}
 use Rattle.wy_term_text.specs.spell.Grammar.{Series, elements, members, Laid, Spans, Spells, IsConstant, IsInRange, IsKind, Stops, between, closing, goes_on, goes_on_or_space, kind_before, layout, more_names, opening, sort_in}
 use Rattle.wy_term_text.specs.spell.Heads.{begins_with, behind_run, by_sign, class_at, lead_at, led_at, parted}
 use Rattle.wy_term_text.specs.spell.Made.{made}
@@ -20,7 +17,7 @@ use Rattle.wy_term_text.proofs.reread_lemmas.RereadLemmas.{folded_stays}
 use Rattle.wy_term_text.proofs.reread_lemmas.ShownLemmas.{shown_spells}
 use Rattle.wy_term_text.proofs.spell_lemmas.FormulaHeads.{formula_up}
 use Rattle.wy_term_text.proofs.spell_lemmas.FrontLemmas.{class_of_name, class_of_number}
-use Rattle.wy_term_text.proofs.spell_lemmas.GoesUp.{Anything, cover_binder, cover_comparison, cover_equation, cover_field_first, cover_field_more, cover_field_name, cover_first, cover_first_end, cover_formula_lead, cover_int_datum, cover_int_lead, cover_int_name, cover_last_field, cover_more, cover_more_end, cover_no_field, cover_number, cover_set_field_name, cover_type_number, cover_val_datum, cover_val_lead, cover_val_name, cover_word, no_word_byte, tail_word, val_front}
+use Rattle.wy_term_text.proofs.spell_lemmas.GoesUp.{Anything, cover_binder, cover_comparison, cover_equation, cover_field_first, cover_field_more, cover_field_name, cover_first, cover_first_end, cover_formula_lead, cover_int_lead, cover_int_name, cover_last_field, cover_more, cover_more_end, cover_no_field, cover_number, cover_set_field_name, cover_type_number, cover_val_datum, cover_val_lead, cover_val_name, cover_word, no_word_byte, tail_word, val_front}
 use Rattle.wy_term_text.proofs.spell_lemmas.KindUp.{cover_kind_array, cover_kind_bool, cover_kind_first, cover_kind_int, cover_kind_more, cover_kind_null, cover_last_kind_field, cover_no_kind_fields}
 use Rattle.wy_cache.specs.Rekept.{TextsTellTerms}
 
