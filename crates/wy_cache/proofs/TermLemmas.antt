@@ -1,4 +1,5 @@
--- A text is that of one term of a sort. Of what is still to be read at most one term may come: the first thing stands for others, with less text, or with no more text and less to do.
+-- A text is that of one term of a sort. Of what is still to be read at most one term may come: the first thing stands for others, with less text, or with
+-- no more text and less to do.
 use Rattle.std.proofs.Common.{◌≡◌, ◌∙◌, ◌+◌, ◌<◌, ◌≤◌, ℕ, zero, suc, List, [], ◌∷◌, ◌++◌, ◌==◌, ◌||◌, ◌⊎◌, inl, inr, Bool, true, false, Some, None, codes, length, take, drop, refl, sym, ap, subst, arith, if◌then◌else◌}
 use Rattle.wy_term.proofs.wy_lemmas_proofs.Choices.{either_of as either, or_false as neither}
 use Rattle.std.proofs.lemmas.List.{length-append}
