@@ -1,7 +1,7 @@
 -- What is written is kept.
 use Rattle.std.specs.Prelude.{◌≡◌, ◌⊎◌, ℕ, ◌+◌, List, [], ◌∷◌, ◌++◌}
 use Rattle.wy_term.specs.Term.{Term}
-use Rattle.wy_term.specs.Sorts.{formula_sort}
+use Rattle.wy_term.specs.Sorts.{Sort, formula_sort}
 use Rattle.wy_term.specs.Condition.{Condition}
 use Rattle.wy_term_text.specs.show.Text.{text_of}
 use Rattle.wy_cert.specs.Steps.{Written, Certificates}
@@ -39,13 +39,13 @@ IsAmong c (d ∷ ds) = (c ≡ d) ⊎ IsAmong c ds
 abbrev pub AreTold : List Condition → Type 0
 AreTold cs = (c d : Condition) → IsAmong c cs → IsAmong d cs → key_of c ≡ key_of d → c ≡ d
 
--- a text is that of one formula
-abbrev pub FormulasAreTold : Type 0
-FormulasAreTold = (f g : Term) → IsWritableAt formula_sort f → IsWritableAt formula_sort g → text_of f ≡ text_of g → f ≡ g
+-- a text is that of one term of a sort
+abbrev pub TextsTellTerms : Type 0
+TextsTellTerms = (sort : Sort) (t u : Term) → IsWritableAt sort t → IsWritableAt sort u → text_of t ≡ text_of u → t ≡ u
 
--- conditions with one text have the same hypotheses and the same goal, if a text is that of one formula
+-- conditions with one text have the same hypotheses and the same goal
 abbrev pub TextsTell : Type 0
-TextsTell = FormulasAreTold → (c d : Condition) → AreFormulas (c.hyps ++ c.goal ∷ []) → AreFormulas (d.hyps ++ d.goal ∷ []) → key_of c ≡ key_of d → (c.hyps ≡ d.hyps) × (c.goal ≡ d.goal)
+TextsTell = (c d : Condition) → AreFormulas (c.hyps ++ c.goal ∷ []) → AreFormulas (d.hyps ++ d.goal ∷ []) → key_of c ≡ key_of d → (c.hyps ≡ d.hyps) × (c.goal ≡ d.goal)
 
 -- each of these is kept
 abbrev pub AllKept : Entries → List Condition → Type 0

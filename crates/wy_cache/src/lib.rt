@@ -4,7 +4,7 @@
 //! condition, which is its text. `keeping` takes, for each condition of a program, the first entry with its key, reads the
 //! steps there as a certificate, and keeps it where it is valid. `caching` writes a file of conditions and their
 //! certificates. `specs/Kept` says what is kept, `specs/Cached` what is written, and `law` that
-//! what is written is kept, and that texts tell conditions where they tell formulas.
+//! what is written is kept, and that texts tell terms, and so conditions.
 #![tactic(auto)]
 
 mod caching;
@@ -14,5 +14,5 @@ mod law;
 
 pub use caching::cache_text;
 pub use keeping::kept;
-pub use law::{texts_tell_conditions, written_conditions_are_kept};
+pub use law::{texts_tell_conditions, texts_tell_terms, written_conditions_are_kept};
 pub use wy_cache_text::{Cache, Entry, read_cache};

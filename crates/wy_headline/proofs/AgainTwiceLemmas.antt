@@ -5,7 +5,7 @@ use Rattle.wy_port.specs.Told.Told.{Holding, Lacking, Unknown}
 use Rattle.wy_term.specs.Condition.{Condition}
 use Rattle.wy_top.proofs.KeepLemmas.{renewed_keeps_all}
 use Rattle.wy_top.specs.wy_batch.Known.{count}
-use Rattle.wy_top.specs.wy_cache.Rekept.{AllKept, FormulasAreTold}
+use Rattle.wy_top.specs.wy_cache.Rekept.{AllKept}
 use Rattle.wy_top.specs.wy_cache_text.Files.{Entries}
 use Rattle.wy_top.specs.wy_top_answers.Answers.{no_memory as lacks_memory, refused}
 use Rattle.wy_top.specs.wy_top_answers.Showing.{ShowsFront, ShowsWhole, Sinks}
@@ -47,14 +47,14 @@ module _ (s : Setting) (source cache : List ℕ) (budget : ℕ) (v : Saving) (st
   -- ---- the call behind it
 
   keeps : IsTold s source → IsTold s cache → v.told_before ≡ s.told cache → (text : List ℕ) (m : Made text) → IsSaved v.told_before v.told_after text → are_closed m.renews.renews.file.verdicts ≡ true
-      → AreSpelled (conditions_of m.renews.program) → FormulasAreTold → m.renews.renews.file.is.behind ≡ []
+      → AreSpelled (conditions_of m.renews.program) → m.renews.renews.file.is.behind ≡ []
       → (next : Setting) → next.told source ≡ s.told source → next.told cache ≡ v.told_after
       → (other : ℕ) (w : Saving) (ends : ℕ) (j : Sinks) → IsRenewed next source cache other w ends j
       → ShowsWhole (line_of (all_kept m.renews.program)) ends j ⊎ IsUnsaved next cache ends j
-  keeps here there before text m saved closed spelled tell fits next same_source same_cache other w ends j h =
+  keeps here there before text m saved closed spelled fits next same_source same_cache other w ends j h =
       let p = m.renews.program in
       let file = m.renews.renews.file in
-      let all = renewed_keeps_all p budget m.renews.renews.entries text file (record { closed = closed; fits = fits }) spelled tell in
+      let all = renewed_keeps_all p budget m.renews.renews.entries text file (record { closed = closed; fits = fits }) spelled in
       let holds : next.told cache ≡ Holding text = same_cache ∙ held v.told_before v.told_after text (λ e. there (sym before ∙ e)) saved in
       let means = renewals_right next source cache other w ends j h in
       means.accepted_where (λ e. here (sym same_source ∙ e)) (λ e. told_then text (sym holds ∙ e)) (all_kept p) (record {

@@ -9,7 +9,10 @@ use Rattle.wy_top.specs.wy_gen_sources.sourced_code.Cores.{AsCodeAsks}
 use Rattle.wy_top.proofs.wy_gen_sources_proofs.sourced_code_lemmas.SourceLemmas.{spelled_as_asked}
 use Rattle.wy_sound.proofs.sources_lemmas.SourceLemmas.{spelled_sourced}
 use Rattle.wy_sound.specs.wy_flow_spec.typing.Programs.{IsTyped}
-use Rattle.wy_headline.specs.Sources.{SourcesAreShown}
+use Rattle.wy_headline.specs.Sources.{SourcesAreFormed, SourcesAreShown}
+
+pub source_formed : SourcesAreFormed
+source_formed bytes core flow p = subst Formed p.holds.0 (source-formed bytes p.named.program p.core p.named.spelled p.named.holds)
 
 pub source_shown : SourcesAreShown
 source_shown bytes core flow p holds =
@@ -18,7 +21,7 @@ source_shown bytes core flow p holds =
     let named = p.named.holds in
     record {
       shown = record {
-        formed = subst Formed p.holds.0 (source-formed bytes program p.core spelled named);
+        formed = source_formed bytes core flow p;
         typed = subst (λ (c : Core ℕ). IsTyped c flow) p.holds.0 p.holds.1;
         assigned = subst IsAssigned p.holds.0 p.holds.2;
         sourced = subst Sourced p.holds.0 (spelled_sourced bytes program p.core spelled named);

@@ -5,7 +5,6 @@ use Rattle.wy_port.specs.Told.{IsSaved}
 use Rattle.wy_term.specs.Condition.{Condition}
 use Rattle.wy_search_spec.specs.Tree.{IsVerdict, found as closes}
 use Rattle.wy_top.specs.wy_cache.Kept.{IsKept}
-use Rattle.wy_top.specs.wy_cache.Rekept.{FormulasAreTold}
 use Rattle.wy_top.specs.wy_cache_text.Files.{Entries}
 use Rattle.wy_top.specs.wy_cert.Only.{HasNone}
 use Rattle.wy_top.specs.wy_cert.Steps.{Written}
@@ -73,12 +72,12 @@ RenewalsAreRight = (s : Setting) (source cache : List ℕ) (budget : ℕ) (v : S
 abbrev pub all_kept : Program → Renewal
 all_kept p = record { program = p; kept = count_of p; searched = 0 }
 
--- What a call saved that accepted the program. Where the formulas of the conditions can be written, a text is that of one formula, and all entries fit, each call that finds the source as it was and the cache as it was saved keeps all conditions, whatever its budget, and searches none.
+-- What a call saved that accepted the program. Where the formulas of the conditions can be written and all entries fit, each call that finds the source as it was and the cache as it was saved keeps all conditions, whatever its budget, and searches none.
 pub record SavesAll (s : Setting) (source cache : List ℕ) (budget : ℕ) (v : Saving) : Type 0 where
   pub text : List ℕ
   pub made : again.Renews s source cache budget text
   pub saved : IsSaved v.told_before v.told_after text
-  pub keeps : AreSpelled (conditions_of made.renews.program) → FormulasAreTold → made.renews.renews.file.is.behind ≡ []
+  pub keeps : AreSpelled (conditions_of made.renews.program) → made.renews.renews.file.is.behind ≡ []
       → (next : Setting) → next.told source ≡ s.told source → next.told cache ≡ v.told_after
       → (other : ℕ) (w : Saving) (status : ℕ) (k : Sinks) → IsRenewed next source cache other w status k
       → ShowsWhole (line_of (all_kept made.renews.program)) status k ⊎ IsUnsaved next cache status k

@@ -4,6 +4,7 @@ use Rattle.wy_code.specs.declared.routines.Code.{Code}
 use Rattle.wy_top.specs.wy_code_spec.compiled.Programs.{code_of}
 use Rattle.wy_core.specs.CoreTree.{Core, Routine, routines_of}
 use Rattle.wy_core.specs.Types.{Ty}
+use Rattle.wy_core.specs.formed.Formed.{Formed}
 use Rattle.wy_sound.specs.wy_sound_terms.formed.OwedConditions.{owed_conditions}
 use Rattle.wy_sound.specs.wy_sem.Evaluation.{Declared, callee}
 use Rattle.wy_sound.specs.wy_sem.Precondition.{Meets}
@@ -37,6 +38,10 @@ ShownProgramsRunRightly = (place : ℕ → ℕ) (core : Core ℕ) (flow : List T
 abbrev pub AcceptedSourcesRunRightly : Type 0
 AcceptedSourcesRunRightly =
     (place : ℕ → ℕ) (bytes : List ℕ) (core : Core ℕ) (flow : List Ty) → IsProgram bytes core flow → AllHold (owed_conditions core flow) → (code : Code) → code ≡ code_of core → CodeRunsRightly place core code
+
+-- the typed and assigned program of each source is formed
+abbrev pub SourcesAreFormed : Type 0
+SourcesAreFormed = (bytes : List ℕ) (core : Core ℕ) (flow : List Ty) → IsProgram bytes core flow → Formed core
 
 -- nothing dead is kept in the code of each source
 abbrev pub SourcesKeepNothingDead : Type 0

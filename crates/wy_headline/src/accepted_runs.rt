@@ -1,5 +1,10 @@
 //! What is known of accepted programs and of their code.
-ghost use Rattle.wy_headline.specs.Sources.{AcceptedSourcesRunRightly, ShownProgramsRunRightly, SourcesAreShown, SourcesKeepNothingDead};
+ghost use Rattle.wy_headline.specs.Sources.{AcceptedSourcesRunRightly, ShownProgramsRunRightly, SourcesAreFormed, SourcesAreShown, SourcesKeepNothingDead};
+
+/// The typed and assigned program of each source that is read is formed, as each `Typed` of a source keeps it.
+pub fn sources_are_formed()
+    ensures formed { SourcesAreFormed }
+{}
 
 /// The typed and assigned program of a source, of which every condition is true, is such as the laws of soundness and
 /// of code ask for.

@@ -55,7 +55,7 @@ pub fn renewals_are_right()
 /// Two calls of `again`, one behind the other. Where the first ends with status 0, both files were told before it and all entries
 /// fit into what it saved, one that finds the source as it was and the cache as it was saved tells that all conditions are kept
 /// and none is searched, at each budget, but for a failed load (4), a failed save or sink (5) and want of memory (9). It asks that
-/// the formulas of the conditions can be written and that a text is that of one formula.
+/// the formulas of the conditions can be written.
 pub fn accepted_caches_keep_all()
     ensures keep { AcceptedCachesKeepAll }
 {}

@@ -18,8 +18,8 @@ pub mod due;
 mod law;
 
 pub use accepted_runs::{
-    accepted_sources_run_rightly, shown_programs_run_rightly, sources_are_shown,
-    sources_keep_nothing_dead,
+    accepted_sources_run_rightly, shown_programs_run_rightly, sources_are_formed,
+    sources_are_shown, sources_keep_nothing_dead,
 };
 pub use commands::run_words;
 pub use law::{

@@ -10,6 +10,7 @@ pub mod HeadLemmas
 pub mod StaticLemmas
 pub mod StoreLemmas
 pub mod WithLemmas
+pub mod BackLemmas
 pub mod ValueLemmas
 pub mod UpdateLemmas
 pub mod RunLemmas

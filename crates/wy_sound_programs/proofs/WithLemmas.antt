@@ -41,18 +41,18 @@ use Rattle.wy_subtype_parts.proofs.FieldLemmas.{some_other}
 
 -- ---- names
 
-no_less : (n : List ℕ) → slice_cmp nat_cmp n n ≡ Less → ⊥
+pub no_less : (n : List ℕ) → slice_cmp nat_cmp n n ≡ Less → ⊥
 no_less n e = absurd (cc (e, nat_list_cmp_total.antisymm n n, ap ordering_reverse e))
 
 -- the name goes before each of these
-abbrev Before : List ℕ → List (List ℕ) → Type 0
+abbrev pub Before : List ℕ → List (List ℕ) → Type 0
 Before n ns = AllByRecursion (λ m. slice_cmp nat_cmp n m ≡ Less) ns
 
-first_before : (n : List ℕ) (ns : List (List ℕ)) → Rise (n ∷ ns) → Before n ns
+pub first_before : (n : List ℕ) (ns : List (List ℕ)) → Rise (n ∷ ns) → Before n ns
 unfolding IsStrictlySortedBy
 first_before n ns h = h.0
 
-rest_rise : (n : List ℕ) (ns : List (List ℕ)) → Rise (n ∷ ns) → Rise ns
+pub rest_rise : (n : List ℕ) (ns : List (List ℕ)) → Rise (n ∷ ns) → Rise ns
 unfolding IsStrictlySortedBy
 rest_rise n ns h = h.1
 
@@ -157,18 +157,18 @@ module _ (table : Table) (k : ℕ) (f : List ℕ) (terms : List (Signed ℕ)) (v
 -- ---- a question about both types
 
 module _ (names : List Declared) (recur : RecurThroughParts names) (t value : Ty) where
-  abbrev q : Question
+  abbrev pub q : Question
   q = numbered names t value
 
-  ranked : (rank : ℕ → ℕ) × IsRanked q.table rank q.depth
+  pub ranked : (rank : ℕ → ℕ) × IsRanked q.table rank q.depth
   ranked = question_ranked names t value q (is_asked names t value) recur
 
-  they_say : (list : List (Conjunct ℕ)) → (d : Datum) → any_in (shape_of q.table q.depth d) (all_of q) ≡ Up names d t
+  pub they_say : (list : List (Conjunct ℕ)) → (d : Datum) → any_in (shape_of q.table q.depth d) (all_of q) ≡ Up names d t
   they_say list d =
       any_in-dnf_part q.table q.depth (shape_of q.table q.depth d) (has_laws q.table ranked.0 q.depth ranked.1 d) (first_part q)
       ∙ (part_in-inside q.table q.depth ranked d q.first ∙ first_agrees names t value q (is_asked names t value) recur d true)
 
-  value_says : (v : Datum) → part_in (member q.table q.depth v) (second_part q) ≡ Up names v value
+  pub value_says : (v : Datum) → part_in (member q.table q.depth v) (second_part q) ≡ Up names v value
   value_says v = part_in-inside q.table q.depth ranked v q.second ∙ second_agrees names t value q (is_asked names t value) recur v true
 
 pub withs_are_in : (names : List Declared) → RecurThroughParts names → (f : List ℕ) (t value made : Ty) → AllHave names f t → IsWith names f t value made → (fs : Fields) (v : Datum) → Rise (names_of fs) → Up names (Record fs) t ≡ true → Up names v value ≡ true

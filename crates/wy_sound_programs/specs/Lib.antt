@@ -16,6 +16,8 @@ pub mod FormedBodies
 pub mod Entries
 -- the point where a body begins, and contracts that are kept
 pub mod Begun
+-- the type of records with another value at a field
+pub mod Updates
 -- passed on to the crates above
 pub use Rattle.wy_sem.specs as wy_sem
 pub use Rattle.wy_sound_statements.specs.wy_sound_kinds as wy_sound_kinds

@@ -5,6 +5,7 @@ ghost use Rattle.wy_sound_programs.specs.Entries.{EntriesMarkParams, BodiesBegin
 ghost use Rattle.wy_sound_programs.specs.FormedBodies.{FormedBodiesAreMade};
 ghost use Rattle.wy_sound_programs.specs.Once.{RoutinesAreScoped};
 ghost use Rattle.wy_sound_programs.specs.Typed.{TypedBlocksSuit};
+ghost use Rattle.wy_sound_programs.specs.Updates.{UpdatesAreTold};
 
 /// The body of a function or method, from a store at the point before it, and its end. Where each condition that they owe is
 /// true, it is no fault at any number of ticks, and it leaves what the contract says.
@@ -43,4 +44,11 @@ pub fn bodies_begin_and_end()
 pub fn bodies_keep()
     ensures begun { BodiesAreBegun }
     ensures keep { BodiesKeep }
+{}
+
+/// The type that flow typing makes of a type and of another one at a field, where each datum in the type is a record with the field:
+/// it has records alone, and those of them whose names rise are exactly the records of the type with a value of the other one at
+/// the field.
+pub fn updates_are_told()
+    ensures told { UpdatesAreTold }
 {}

@@ -3,7 +3,7 @@ use Rattle.std.proofs.Common.{◌≡◌, ◌∙◌, ◌+◌, ◌&&◌, ℕ, List
 use Rattle.wy_batch.specs.Known.{Known, is_closed}
 use Rattle.wy_cache.proofs.RekeptLemmas.{keeps_what_is_written, reads_entered}
 use Rattle.wy_cache.proofs.TellingLemmas.{texts_tell}
-use Rattle.wy_cache.specs.Rekept.{AreEntered, AreFormulas, AreTold, FormulasAreTold, IsAmong}
+use Rattle.wy_cache.specs.Rekept.{AreEntered, AreFormulas, AreTold, IsAmong}
 use Rattle.wy_cache_text.specs.Files.{Entries}
 use Rattle.wy_cache_text.specs.Reread.{held_row}
 use Rattle.wy_cert.specs.Steps.{Certificates}
@@ -57,10 +57,10 @@ module _ {N : Type 0} (s : Setting N) where
   types_are (o ∷ os) c (inl is) = subst (λ (x : Condition). x.types ≡ types_by x.hyps x.goal) (sym is) refl
   types_are (o ∷ os) c (inr there) = types_are os c there
 
-  all_told : FormulasAreTold → (os : List Owed) → AreSpelled (map (with_types s) os) → AreTold (map (with_types s) os)
-  all_told tell os spelled c d in_c in_d same =
+  all_told : (os : List Owed) → AreSpelled (map (with_types s) os) → AreTold (map (with_types s) os)
+  all_told os spelled c d in_c in_d same =
       let cs = map (with_types s) os in
-      let both = texts_tell tell c d (spelled_each cs c spelled in_c) (spelled_each cs d spelled in_d) same in
+      let both = texts_tell c d (spelled_each cs c spelled in_c) (spelled_each cs d spelled in_d) same in
       let types : c.types ≡ d.types = types_are os c in_c ∙ ap (λ (hyps : List Term). types_by hyps c.goal) both.0 ∙ ap (types_by d.hyps) both.1 ∙ sym (types_are os d in_d) in
       ap (λ (hyps : List Term). made hyps c.goal c.types) both.0 ∙ ap (λ (goal : Term). made d.hyps goal c.types) both.1 ∙ ap (made d.hyps d.goal) types
     where
@@ -70,9 +70,9 @@ module _ {N : Type 0} (s : Setting N) where
 -- ---- the law
 
 pub renewed_keeps_all : RenewedKeepsAll
-renewed_keeps_all p budget es text f full spelled tell =
+renewed_keeps_all p budget es text f full spelled =
     let cs = conditions_of p in
-    let told = all_told (setting_of (numbered_core p.core) p.flow) tell (what_is_owed p.core p.flow) spelled in
+    let told = all_told (setting_of (numbered_core p.core) p.flow) (what_is_owed p.core p.flow) spelled in
     let entered = all_entered es 1 cs f.verdicts f.certificates f.saved full.closed spelled in
     let read = reads_entered cs f.certificates text entered f.is in
     record { entries = map held_row f.is.front; read = read; kept = keeps_what_is_written cs f.certificates text (map held_row f.is.front) entered told f.is full.fits read }

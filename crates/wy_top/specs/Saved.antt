@@ -1,6 +1,6 @@
 -- What do the files come to that `prove` and `again` save, where they are supplied?
 use Rattle.std.specs.Prelude.{◌≡◌, ℕ, List, [], ◌∷◌, ◌++◌, true}
-use Rattle.wy_cache.specs.Rekept.{AllKept, AreFormulas, FormulasAreTold}
+use Rattle.wy_cache.specs.Rekept.{AllKept, AreFormulas}
 use Rattle.wy_cache_text.specs.Files.{Entries, IsReadAs}
 use Rattle.wy_term.specs.Condition.{Condition}
 use Rattle.wy_top.specs.Acceptance.{IsAccepted, are_closed}
@@ -30,6 +30,6 @@ pub record KeepsAll (p : Program) (text : List ℕ) : Type 0 where
   pub read : IsReadAs text entries
   pub kept : AllKept entries (conditions_of p)
 
--- Where all conditions of a program are closed and their entries fit into the cache that is saved, its formulas can be written, and a text is that of one formula, the entries that it is read as keep all of them.
+-- Where all conditions of a program are closed and their entries fit into the cache that is saved, and its formulas can be written, the entries that it is read as keep all of them.
 abbrev pub RenewedKeepsAll : Type 0
-RenewedKeepsAll = (p : Program) (budget : ℕ) (es : Entries) (text : List ℕ) (f : IsCacheOf p budget es text) → IsFull p budget es text f → AreSpelled (conditions_of p) → FormulasAreTold → KeepsAll p text
+RenewedKeepsAll = (p : Program) (budget : ℕ) (es : Entries) (text : List ℕ) (f : IsCacheOf p budget es text) → IsFull p budget es text f → AreSpelled (conditions_of p) → KeepsAll p text

@@ -15,7 +15,7 @@ pub fn saved_certificates_are_accepted()
 {}
 
 /// Where `again` saved a cache with all conditions of a program, what it is read as keeps all of them. It asks that the conditions'
-/// formulas can be written and that a text is that of one formula.
+/// formulas can be written.
 pub fn renewed_caches_keep_all()
     ensures kept { RenewedKeepsAll }
 {}
