@@ -81,9 +81,12 @@ fn with_certified(
     ensures kept { (t : ℕ) → t < length terms.old → tree_at terms.new t ≡ tree_at terms.old t }
 {
     let made = certified(terms, cond, budget)?;
-    let mut certs = certs;
-    if let Some(cert) = made {
-        certs.list.push((number, cert))?;
+    match made {
+        Some(cert) => {
+            let mut certs = certs;
+            certs.list.push((number, cert))?;
+            Ok(certs)
+        }
+        None => Ok(certs),
     }
-    Ok(certs)
 }
