@@ -27,10 +27,7 @@ fn is_numbered(terms: &Terms, step: &Step) -> bool
         }
         Step::Inst(i, _) | Step::Wit(i) => is_place(*i),
         Step::Fact(schema, all) => {
-            is_place(*schema)
-                && *schema <= 16
-                && !all.is_empty()
-                && are_no_constants(terms, all)
+            is_place(*schema) && *schema <= 16 && !all.is_empty() && are_no_constants(terms, all)
         }
         Step::Prod(i, j, _) => is_place(*i) && is_place(*j),
     }
