@@ -105,9 +105,9 @@ one_term t val_sort may is folded own = inr (folded, subst (IsOf t) is own)
 one_term t formula_sort may is folded own = absurd may
 
 by_sort : (t : Term) (sort : Sort) → sort_in t ≡ sort → IsFolded t → IsOwn t → IsNoConstant t → IsWritableArgument t
-by_sort t int_sort is folded own no = inl (inl (folded, subst (IsOf t) is own))
-by_sort t val_sort is folded own no = inl (inr (folded, subst (IsOf t) is own))
-by_sort t formula_sort is folded own no = inr (no, (folded, subst (IsOf t) is own))
+by_sort t int_sort is folded own free = inl (inl (folded, subst (IsOf t) is own))
+by_sort t val_sort is folded own free = inl (inr (folded, subst (IsOf t) is own))
+by_sort t formula_sort is folded own free = inr (free, (folded, subst (IsOf t) is own))
 
 module _ (nodes : List Plain) (all : AreInRange nodes (length nodes)) where
   abbrev at : ℕ → Term
@@ -121,10 +121,10 @@ module _ (nodes : List Plain) (all : AreInRange nodes (length nodes)) where
   )
 
   arguments_writable : (ks : List ℕ) → All (λ k. k < length nodes) ks → AreSortedTerms (map at ks) → AreFoldedTerms (map at ks) → AreNoConstants (map at ks) → AreWritableArguments (map at ks)
-  arguments_writable [] below sorted folded no = tt
-  arguments_writable (k ∷ ks) below sorted folded no = (
-    by_sort (at k) (sort_in (at k)) refl folded.0 (own_at nodes all k (All-head (λ (i : ℕ). i < length nodes) k ks below) sorted.0) no.0,
-    arguments_writable ks (All-tail (λ (i : ℕ). i < length nodes) k ks below) sorted.1 folded.1 no.1,
+  arguments_writable [] below sorted folded free = tt
+  arguments_writable (k ∷ ks) below sorted folded free = (
+    by_sort (at k) (sort_in (at k)) refl folded.0 (own_at nodes all k (All-head (λ (i : ℕ). i < length nodes) k ks below) sorted.0) free.0,
+    arguments_writable ks (All-tail (λ (i : ℕ). i < length nodes) k ks below) sorted.1 folded.1 free.1,
   )
 
   chain_writable : (ls : List Literal) (ks : List ℕ) (fs : List Term) → chain_stated ls (map at ks) ≡ Some fs → All (λ k. k < length nodes) ks → AreSortedTerms (map at ks) → AreFoldedTerms (map at ks) → AreWritableTerms (map at ks)
