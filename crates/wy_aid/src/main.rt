@@ -1,7 +1,8 @@
 //! The program `wy_aid`: what stands beside `wy` for people.
 //!
 //! `words` reads the words behind the program's own name, `commands` does what they ask for, and `help` has the table of all commands.
-//! It accepts and runs nothing, and promises nothing of acceptance: what it says comes from the passes and the search that it asks.
+//! It accepts and runs nothing, and promises nothing of acceptance: what it says comes from the passes and the searches that it asks, and
+//! what it saves is certificates, which `wy` judges.
 #![tactic(auto)]
 
 mod commands;
@@ -9,6 +10,7 @@ mod explaining;
 mod help;
 mod judged;
 mod passes;
+mod proving;
 mod splitting;
 mod trying;
 mod words;
