@@ -9,13 +9,15 @@ use wy_port::{Files, LoadFault, SaveFault, Sink, write_whole};
 /// The most bytes of a source.
 const LARGEST: u64 = 1_048_576;
 
-/// Does what the words ask for, and answers the exit status: that of `check` for an explained source.
+/// Does what the words ask for, and answers the exit status: that of `check` for an explained source, that of `prove` for `find`. Where
+/// `err` is a terminal, `find` tells on it how far it is.
 pub fn perform<F: Files, O: Sink, E: Sink>(
     alloc: Global,
     words: Words<'_>,
     files: &mut F,
     out: &mut O,
     err: &mut E,
+    is_terminal: bool,
 ) -> u8 {
     match words {
         Words::Help => written(out, HELP.as_bytes(), 0),
@@ -40,7 +42,7 @@ pub fn perform<F: Files, O: Sink, E: Sink>(
             out: name,
             effort,
         } => match files.load(alloc, source, LARGEST) {
-            Ok(bytes) => match find(alloc, source, bytes.as_slice(), effort) {
+            Ok(bytes) => match find(alloc, source, bytes.as_slice(), effort, is_terminal, err) {
                 Ok(proof) => saved(alloc, name, &proof, files, out, err),
                 Err(_) => 9,
             },

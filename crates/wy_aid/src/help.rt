@@ -20,7 +20,7 @@ pub const HELP: &str = concat!(
     "CERT is a file of certificates, or the word none. ARGS is one word in round brackets.\n",
     "\n",
     "  --budget N   cases of a search: 0 to 1000000, else 20000    (check, run, prove, again, big, explain, find)\n",
-    "  --effort N   steps of the stronger search: 0 to 1000000, else 20000   (find)\n",
+    "  --effort N   steps of the stronger search: 0 to 1000000, else 4000   (find)\n",
     "  --workers N  threads beside each other: 1 to 64, else 1     (check, run, prove, again, big)\n",
     "  --all        each fact of an open case, whole               (explain)\n",
     "  --json       an object a finding, for editors               (explain)\n",

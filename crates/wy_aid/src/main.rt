@@ -18,7 +18,7 @@ mod words;
 use crate::commands::perform;
 use crate::words::words_of;
 use std::env;
-use std::io::ErrorKind;
+use std::io::{ErrorKind, IsTerminal};
 use std::process::ExitCode;
 use wy_port::{DiskFiles, StdSink};
 
@@ -55,5 +55,13 @@ fn status(rt: &HostRuntime, words: &[String]) -> u8 {
     let mut files = DiskFiles::new(rt);
     let mut out = StdSink::new(rt.stdout());
     let mut err = StdSink::new(rt.stderr());
-    perform(rt.alloc(), words_of(words), &mut files, &mut out, &mut err)
+    let is_terminal = rt.stderr().is_terminal();
+    perform(
+        rt.alloc(),
+        words_of(words),
+        &mut files,
+        &mut out,
+        &mut err,
+        is_terminal,
+    )
 }

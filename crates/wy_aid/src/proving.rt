@@ -10,8 +10,8 @@ use wy_cert::writing::write_certs;
 use wy_cert::{Cert, Certs};
 use wy_explain::{Cond, Conds, NoMemory, Page, Source, Terms};
 use wy_find::found;
-use wy_flow::Typed;
 use wy_parse_front::read;
+use wy_port::{Sink, write_whole};
 use wy_search::{OpenLeaf, Verdict, Why, nothing_carried, search};
 use wy_term_text::show::show_formula;
 use wy_vc::{VcFault, conditions};
@@ -35,16 +35,24 @@ pub struct Proof {
     pub saved: Option<Vec<u8>>,
 }
 
-// What became of the conditions so far.
+// What became of the conditions so far: the certificates, and the lines of those that aren't shown.
 #[derive(Drop)]
 struct Tally {
+    certs: Certs,
     lines: Page,
     open: u64,
     spent: u64,
 }
 
-/// Seeks certificates for the conditions of a source.
-pub fn find(alloc: Global, name: &str, bytes: &[u8], effort: Effort) -> Result<Proof, NoMemory> {
+/// Seeks certificates for the conditions of a source. Where it is to be told, `err` says at which condition the search is.
+pub fn find<E: Sink>(
+    alloc: Global,
+    name: &str,
+    bytes: &[u8],
+    effort: Effort,
+    is_told: bool,
+    err: &mut E,
+) -> Result<Proof, NoMemory> {
     let source = Source { name, bytes };
     if bytes.len() >= u32::MAX as usize {
         return Err(NoMemory);
@@ -56,10 +64,16 @@ pub fn find(alloc: Global, name: &str, bytes: &[u8], effort: Effort) -> Result<P
         },
         Err(_) => {}
     }
-    match typed_program(alloc, bytes) {
-        Ok(typed) => find_typed(alloc, &source, &typed, effort),
-        Err(Refused::NoMemory) => Err(NoMemory),
-        Err(Refused::Fault(fault)) => faulty(alloc, &source, fault.at, fault.word),
+    let typed = match typed_program(alloc, bytes) {
+        Ok(typed) => typed,
+        Err(Refused::NoMemory) => return Err(NoMemory),
+        Err(Refused::Fault(fault)) => return faulty(alloc, &source, fault.at, fault.word),
+    };
+    match conditions(alloc, &typed) {
+        Ok(conds) => find_conditions(alloc, &source, conds, effort, is_told, err),
+        Err(VcFault::NoMemory) => Err(NoMemory),
+        Err(VcFault::TooManyConds) => faulty(alloc, &source, 0, "TooManyConds"),
+        Err(VcFault::TooManyTerms(_)) => faulty(alloc, &source, 0, "TooManyTerms"),
     }
 }
 
@@ -77,37 +91,25 @@ fn faulty(alloc: Global, source: &Source, at: u32, word: &str) -> Result<Proof, 
     })
 }
 
-fn find_typed(
-    alloc: Global,
-    source: &Source,
-    typed: &Typed,
-    effort: Effort,
-) -> Result<Proof, NoMemory> {
-    match conditions(alloc, typed) {
-        Ok(conds) => find_conditions(alloc, source, conds, effort),
-        Err(VcFault::NoMemory) => Err(NoMemory),
-        Err(VcFault::TooManyConds) => faulty(alloc, source, 0, "TooManyConds"),
-        Err(VcFault::TooManyTerms(_)) => faulty(alloc, source, 0, "TooManyTerms"),
-    }
-}
-
-fn find_conditions(
+fn find_conditions<E: Sink>(
     alloc: Global,
     source: &Source,
     conds: Conds,
     effort: Effort,
+    is_told: bool,
+    err: &mut E,
 ) -> Result<Proof, NoMemory>
     requires conds { All (IsCond conds.terms) conds.list.items }
 {
     let Conds { mut terms, list } = conds;
-    let mut tally = Tally {
-        lines: Page::new(alloc),
-        open: 0,
-        spent: 0,
-    };
-    let certs = certificates(alloc, source, &mut terms, &list, effort, &mut tally)?;
-    let saved = write_certs(alloc, &certs)?;
-    let Tally { lines, open, spent } = tally;
+    let tally = sought(alloc, source, &mut terms, &list, effort, is_told, err)?;
+    let saved = write_certs(alloc, &tally.certs)?;
+    let Tally {
+        lines,
+        open,
+        spent,
+        ..
+    } = tally;
     let mut page = lines;
     put_sum(&mut page, list.len() as u64, open, spent)?;
     let (status, out, err) = if open == 0 && spent == 0 {
@@ -125,70 +127,90 @@ fn find_conditions(
 
 // A certificate for each condition that the strong search shows. The defined search is asked for the others; of those that it leaves
 // open too, or for which its leaves are spent, the lines are those of `prove`.
-fn certificates(
+fn sought<E: Sink>(
     alloc: Global,
     source: &Source,
     terms: &mut Terms,
     conds: &[Cond],
     effort: Effort,
-    tally: &mut Tally,
-) -> Result<Certs, NoMemory>
+    is_told: bool,
+    err: &mut E,
+) -> Result<Tally, NoMemory>
     requires conds { All (IsCond terms.old) conds.now }
-    ensures named { IfOk result NameTheirTerms }
+    ensures named { IfOk result (λ t. NameTheirTerms t.certs) }
 {
     let mut certs = Certs {
         list: Vec::new(alloc),
     };
-    let mut number = 0u32;
+    let mut lines = Page::new(alloc);
+    let mut open = 0u64;
+    let mut spent = 0u64;
     for i in 0..conds.len() {
-        number = number.saturating_add(1);
+        let number = i as u64 + 1;
+        tell(alloc, number, conds.len() as u64, is_told, err)?;
         match found(terms, &conds[i], effort.steps)? {
             Some(cert) => certs = with_cert(certs, number, cert)?,
             None => {
                 let mut carried = nothing_carried(alloc, terms.len());
-                let verdict = search(terms, &mut carried, &conds[i], effort.leaves)?;
-                put_verdict(tally, source, &conds[i], number, verdict, effort.leaves)?;
+                match search(terms, &mut carried, &conds[i], effort.leaves)? {
+                    Verdict::Found(_) => {}
+                    Verdict::Open(leaf) => {
+                        open = open.saturating_add(1);
+                        put_open(&mut lines, source, &conds[i], number, &leaf)?;
+                    }
+                    Verdict::Spent => {
+                        spent = spent.saturating_add(1);
+                        put_spent(&mut lines, source, &conds[i], number, effort.leaves)?;
+                    }
+                }
             }
         }
     }
-    Ok(certs)
+    tell(alloc, 0, 0, is_told, err)?;
+    Ok(Tally {
+        certs,
+        lines,
+        open,
+        spent,
+    })
+}
+
+// Says on a line that the next one writes over at which of so many conditions the search is; at 0 the line is empty.
+fn tell<E: Sink>(
+    alloc: Global,
+    number: u64,
+    count: u64,
+    is_told: bool,
+    err: &mut E,
+) -> Result<(), NoMemory> {
+    if !is_told {
+        return Ok(());
+    }
+    let mut page = Page::new(alloc);
+    if number == 0 {
+        page.text("\r                              \r")?;
+    } else {
+        page.text("\rcondition ")?;
+        page.number(number)?;
+        page.text(" of ")?;
+        page.number(count)?;
+    }
+    let _ = write_whole(err, page.as_slice());
+    Ok(())
 }
 
 // The certificates and one more.
-fn with_cert(certs: Certs, number: u32, cert: Cert) -> Result<Certs, NoMemory>
+fn with_cert(certs: Certs, number: u64, cert: Cert) -> Result<Certs, NoMemory>
     requires certs { NameTheirTerms certs }
     requires cert { NamesItsTerms cert }
     ensures named { IfOk result NameTheirTerms }
 {
     let mut certs = certs;
+    let Ok(number) = u32::try_from(number) else {
+        return Ok(certs);
+    };
     certs.list.push((number, cert))?;
     Ok(certs)
-}
-
-// The lines of a condition that the strong search doesn't show: none where the defined one finds it.
-fn put_verdict(
-    tally: &mut Tally,
-    source: &Source,
-    cond: &Cond,
-    number: u32,
-    verdict: Verdict,
-    leaves: u64,
-) -> Result<(), NoMemory> {
-    match verdict {
-        Verdict::Found(_) => Ok(()),
-        Verdict::Open(leaf) => {
-            tally.open = tally.open.saturating_add(1);
-            put_condition(&mut tally.lines, source, cond, number)?;
-            put_leaf(&mut tally.lines, &leaf)
-        }
-        Verdict::Spent => {
-            tally.spent = tally.spent.saturating_add(1);
-            put_condition(&mut tally.lines, source, cond, number)?;
-            tally.lines.text("spent ")?;
-            tally.lines.number(leaves)?;
-            tally.lines.text("\n")
-        }
-    }
 }
 
 fn put_place(page: &mut Page, source: &Source, at: u32) -> Result<(), NoMemory> {
@@ -204,18 +226,39 @@ fn put_condition(
     page: &mut Page,
     source: &Source,
     cond: &Cond,
-    number: u32,
+    number: u64,
 ) -> Result<(), NoMemory> {
     put_place(page, source, cond.at)?;
     page.text("condition ")?;
-    page.number(u64::from(number))?;
+    page.number(number)?;
     page.text(" ")?;
     page.text(cond.kind.word())?;
     page.text(": ")
 }
 
-// Why a leaf is open, with its literals.
-fn put_leaf(page: &mut Page, leaf: &OpenLeaf) -> Result<(), NoMemory> {
+// The line of a condition whose budget of leaves is spent.
+fn put_spent(
+    page: &mut Page,
+    source: &Source,
+    cond: &Cond,
+    number: u64,
+    leaves: u64,
+) -> Result<(), NoMemory> {
+    put_condition(page, source, cond, number)?;
+    page.text("spent ")?;
+    page.number(leaves)?;
+    page.text("\n")
+}
+
+// The lines of a condition that stays open: why, and the literals of its leaf.
+fn put_open(
+    page: &mut Page,
+    source: &Source,
+    cond: &Cond,
+    number: u64,
+    leaf: &OpenLeaf,
+) -> Result<(), NoMemory> {
+    put_condition(page, source, cond, number)?;
     page.text(match leaf.why {
         Why::Still => "open still\n",
         Why::Crowded => "open crowded\n",

@@ -28,7 +28,7 @@ pub enum Words<'a> {
 const BUDGET: u64 = 20_000;
 
 /// The effort in steps where none is given.
-const EFFORT: u64 = 20_000;
+const EFFORT: u64 = 4_000;
 
 /// The most leaves or steps that may be asked for.
 const MOST: u64 = 1_000_000;

@@ -4,11 +4,6 @@ use crate::cuts::cuts_round;
 use crate::facts::{facts_round, scan_names};
 use crate::instances::instances_round;
 use crate::joins::{join_lemmas, joined_names, measures};
-use crate::products::{products_round, sign_split};
-use crate::theory::{
-    add_lemma, bounds_to_classes, classes_to_bounds, decide_atoms, open_pending, units,
-};
-use std::collections::HashMap;
 use crate::node::bounds::linear_closing;
 use crate::node::congruence::{at32, clash, join_all};
 use crate::node::looking::{Shape, kids, shape_of};
@@ -17,6 +12,11 @@ use crate::node::tableau::{NONE, Ref};
 use crate::node::trail::{
     End, Finder, How, Mark, back, close, here, needs_but, needs_of, note_binders, refs, step_one,
 };
+use crate::products::{products_round, sign_split};
+use crate::theory::{
+    add_lemma, bounds_to_classes, classes_to_bounds, decide_atoms, open_pending, units,
+};
+use std::collections::HashMap;
 use wy_term::{Cond, NoMemory, Terms};
 
 /// Adds what follows until nothing does, or the node closes.

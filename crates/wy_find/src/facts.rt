@@ -2,8 +2,6 @@
 ghost use Rattle.std.specs.Prelude.{◌<◌, All, length, IsTrue};
 ghost use Rattle.wy_facts.specs.Membership.{AreTypesBelow};
 
-use std::collections::HashMap;
-use wy_facts::fact;
 use crate::node::congruence::{at32, class_of, join_all, joining, rep_of, state_equal};
 use crate::node::looking::{
     Shape, add, at_most, field_like, get, int_name, kids, kind_asked, kind_like, len, mul,
@@ -12,6 +10,8 @@ use crate::node::looking::{
 use crate::node::plans::{open_atoms, plan_of, values};
 use crate::node::tableau::NONE;
 use crate::node::trail::{Finder, How, Item, Reg, first_time, refs, sign, step, step_one};
+use std::collections::HashMap;
+use wy_facts::fact;
 use wy_term::{Cond, NoMemory, Terms};
 
 fn are_there(terms: &Terms, all: &[u32]) -> bool

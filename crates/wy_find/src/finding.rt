@@ -8,11 +8,11 @@ ghost use Rattle.wy_check.specs.wy_check_laws.wy_check_spec.valid.Validity.{IsVa
 
 use crate::engine::solve;
 use crate::keeping::kept;
+use crate::node::trail::no_finder;
 use crate::writing::written;
 use std::alloc::Global;
 use wy_cert::Cert;
 use wy_check::{Checked, check};
-use crate::node::trail::no_finder;
 use wy_prove_writable::is_certificate_writable;
 use wy_term::{Cond, NoMemory, Terms, Unfold};
 

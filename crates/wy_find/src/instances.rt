@@ -1,6 +1,5 @@
 //! Instances of quantifiers at the indices that stand in the node.
 
-use std::collections::HashMap;
 use crate::node::congruence::{are_equal, join_all};
 use crate::node::looking::{
     Shape, add, at_most, denial, form_of, int_name, is_int, kids, mul, name_number, number,
@@ -10,6 +9,7 @@ use crate::node::tableau::NONE;
 use crate::node::trail::{
     Finder, How, Item, Pattern, Reg, first_time, is_open, refs, sign, step_one,
 };
+use std::collections::HashMap;
 use wy_term::{NoMemory, Terms};
 
 // The places of a quantifier's body where its name stands in an index.

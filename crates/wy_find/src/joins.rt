@@ -1,9 +1,6 @@
 //! Where paths join: bounds, kinds and equations of a joined name that hold on all of them, as literals.
 
 use crate::engine::{run, saturate};
-use crate::products::range_of;
-use crate::theory::add_lemma;
-use std::alloc::Global;
 use crate::node::bounds::decided_by_bounds;
 use crate::node::congruence::{are_equal, at32, class_of, join_all};
 use crate::node::looking::{
@@ -11,6 +8,9 @@ use crate::node::looking::{
 };
 use crate::node::tableau::{Checked, check};
 use crate::node::trail::{Finder, How, back, here, refs, register, step_one, value_of_atom};
+use crate::products::range_of;
+use crate::theory::add_lemma;
+use std::alloc::Global;
 use wy_term::{Cond, NoMemory, Terms};
 
 // What holds of a joined name on the paths so far.

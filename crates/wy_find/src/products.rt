@@ -1,11 +1,11 @@
 //! Products of bounds: of each product the bounds of its factors, multiplied.
 
-use crate::theory::lemma;
 use crate::node::bounds::{decided_by_bounds, of_parts, var_parts};
 use crate::node::looking::{Shape, add, at_most, form_of, is_atom, mul, number, shape_of};
 use crate::node::ratios::{Ratio, floor, plus, times, whole};
 use crate::node::tableau::{AtomForm, Checked, Ref, check, extreme};
 use crate::node::trail::{Finder, How, knows, refs, step_one, value_of_atom};
+use crate::theory::lemma;
 use wy_term::{NoMemory, Terms};
 
 /// The least and the greatest whole number that the bounds leave to an Int term.

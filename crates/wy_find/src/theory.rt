@@ -1,6 +1,5 @@
 //! What follows at a node: units of pending formulas, atoms that bounds or classes decide, equal indices.
 
-use std::collections::HashMap;
 use crate::node::bounds::{atom_form, decided_by_bounds, is_refuted, linear_closing};
 use crate::node::congruence::{
     are_apart, are_equal, at32, clash, class_of, join_all, joining, rep_of, state_equal,
@@ -15,6 +14,7 @@ use crate::node::trail::{
     End, Finder, How, Item, Proof, back, close, counts, here, knows, needs_but, refs, step_one,
     value_of_atom,
 };
+use std::collections::HashMap;
 use wy_term::{NoMemory, Terms};
 
 /// Adds a literal whose denial was closed by a proof.

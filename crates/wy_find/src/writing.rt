@@ -1,11 +1,11 @@
 //! A proof as the steps of a certificate.
 
-use std::alloc::Global;
-use std::collections::HashMap;
-use wy_cert::Step;
 use crate::node::looking::{Shape, kids, shape_of};
 use crate::node::tableau::{NONE, Ref};
 use crate::node::trail::{Deriv, End, Finder, How, Proof, refs};
+use std::alloc::Global;
+use std::collections::HashMap;
+use wy_cert::Step;
 use wy_term::{Cond, NoMemory, Terms};
 
 /// The literals of the checker's node, and the steps so far.

@@ -3,7 +3,6 @@ ghost use Rattle.std.specs.Prelude.{◌≡◌, ◌<◌, ◌↔◌, IsTrue, lengt
 
 use std::alloc::Global;
 use std::collections::HashMap;
-use wy_check_splits::copied_kind;
 use wy_facts::subst;
 use wy_lin::{Form, form, term_form};
 use wy_term::{Kind, Name, NoMemory, Node, Terms};
@@ -449,6 +448,22 @@ pub fn kind_like(terms: &mut Terms, v: u32, like: u32) -> Result<u32, NoMemory> 
         _ => return Err(NoMemory),
     };
     terms.intern(Node::Kind(v, kind))
+}
+
+fn copied_kind(alloc: Global, kind: &Kind) -> Result<Kind, NoMemory> {
+    match kind {
+        Kind::Null => Ok(Kind::Null),
+        Kind::Bool => Ok(Kind::Bool),
+        Kind::Int => Ok(Kind::Int),
+        Kind::Array => Ok(Kind::Array),
+        Kind::Record(names) => {
+            let mut all = Vec::new(alloc);
+            for name in names {
+                all.push(name.copy(alloc)?)?;
+            }
+            Ok(Kind::Record(all))
+        }
+    }
 }
 
 /// Whether two tests ask for one kind.
