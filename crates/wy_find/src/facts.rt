@@ -1,11 +1,12 @@
 //! Facts of terms, up to their classes, and witnesses.
-ghost use Rattle.std.specs.Prelude.{◌<◌, All, length, IsTrue};
+ghost use Rattle.std.specs.Prelude.{◌<◌, length, IsTrue};
 ghost use Rattle.wy_facts.specs.Membership.{AreTypesBelow};
 
 use crate::node::congruence::{at32, class_of, join_all, joining, rep_of, state_equal};
 use crate::node::looking::{
-    Shape, add, at_most, field_like, get, int_name, kids, kind_asked, kind_like, len, mul,
-    name_number, null, num, number, replaced, same_field, set_other, shape_of, update, val_name,
+    Shape, add, are_below, at_most, field_like, get, int_name, kids, kind_asked, kind_like, len,
+    mul, name_number, null, num, number, replaced, same_field, set_other, shape_of, update,
+    val_name,
 };
 use crate::node::plans::{open_atoms, plan_of, values};
 use crate::node::tableau::NONE;
@@ -13,17 +14,6 @@ use crate::node::trail::{Finder, How, Item, Reg, first_time, refs, sign, step, s
 use std::collections::HashMap;
 use wy_facts::fact;
 use wy_term::{Cond, NoMemory, Terms};
-
-fn are_there(terms: &Terms, all: &[u32]) -> bool
-    ensures { IsTrue result → All (λ t. t < length terms.now) all.now }
-{
-    for t in all {
-        if *t as usize >= terms.len() {
-            return false;
-        }
-    }
-    true
-}
 
 // Whether the terms of a condition's named types are there.
 fn are_types_there(terms: &Terms, cond: &Cond) -> bool
@@ -50,7 +40,7 @@ pub fn add_fact(
     if !first_time(f, key)? {
         return Ok(false);
     }
-    if !are_there(terms, args) || !are_types_there(terms, cond) {
+    if !are_below(terms.len(), args) || !are_types_there(terms, cond) {
         return Ok(false);
     }
     let Some(formula) = fact(terms, cond, schema, args)? else {

@@ -2,6 +2,7 @@
 ghost use Rattle.std.specs.Prelude.{◌<◌, All, length, IfOk, IfSome, IsTrue};
 ghost use Rattle.wy_cert.specs.Steps.{IsBelow, NamesItsTerms};
 
+use crate::node::looking::are_below;
 use std::alloc::Global;
 use wy_cert::{Cert, Step};
 use wy_term::{NoMemory, Terms};
@@ -41,17 +42,6 @@ fn kept_step(own: &mut Terms, terms: &Terms, step: &Step) -> Result<Step, NoMemo
         Step::Cut(d, pairs) => Ok(Step::Cut(*d, kept_pairs(alloc, pairs)?)),
         Step::Wit(i) => Ok(Step::Wit(*i)),
     }
-}
-
-fn are_below(n: usize, all: &[u32]) -> bool
-    ensures { IsTrue result → All (λ k. k < n) all.now }
-{
-    for t in all {
-        if *t as usize >= n {
-            return false;
-        }
-    }
-    true
 }
 
 fn is_step_below(n: usize, step: &Step) -> bool

@@ -1,5 +1,5 @@
 //! Looking at terms and making them, with each number tested.
-ghost use Rattle.std.specs.Prelude.{◌≡◌, ◌<◌, ◌↔◌, IsTrue, length};
+ghost use Rattle.std.specs.Prelude.{◌≡◌, ◌<◌, ◌↔◌, All, IsTrue, length};
 
 use std::alloc::Global;
 use std::collections::HashMap;
@@ -142,6 +142,18 @@ fn two(all: &mut Vec<u32>, a: u32, b: u32) -> Result<(), NoMemory> {
     all.push(a)?;
     all.push(b)?;
     Ok(())
+}
+
+/// Whether numbers are all below another one.
+pub fn are_below(n: usize, all: &[u32]) -> bool
+    ensures { IsTrue result → All (λ k. k < n) all.now }
+{
+    for t in all {
+        if *t as usize >= n {
+            return false;
+        }
+    }
+    true
 }
 
 /// Whether there is such a term.
