@@ -6,7 +6,7 @@ pub const HELP: &str = concat!(
     "\n",
     "  ./wy check SRC CERT           is each condition of SRC shown?  ./wy check examples/max.wy none\n",
     "  ./wy explain SRC [CONDITION]  why isn't SRC accepted?          ./wy explain examples/refused/keep.wy\n",
-    "  ./wy find SRC OUT             a stronger search for proofs     ./wy find examples/found/products.wy products.cert\n",
+    "  ./wy find SRC OUT             a stronger search for proofs     ./wy find examples/found/products.wy p.cert\n",
     "  ./wy again SRC CACHE          check, and keep what was shown   ./wy again examples/max.wy max.cache\n",
     "  ./wy run SRC CERT NAME ARGS   run a function of it             ./wy run examples/max.wy none max \"([3, 9])\"\n",
     "  ./wy probe SRC NAME N K       try N tuples of arguments        ./wy probe examples/max.wy max 1000 100\n",

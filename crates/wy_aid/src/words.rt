@@ -36,8 +36,8 @@ const MOST: u64 = 1_000_000;
 /// The most digits of a number.
 const DIGITS: usize = 7;
 
-/// What the words behind the program's own name ask for: `help`, or `explain SRC [CONDITION] [--all | --json] [--budget N]` or `find SRC OUT [--effort N]
-/// [--budget N]`, with the options anywhere behind the command.
+/// What the words behind the program's own name ask for: `help`, `explain SRC [CONDITION] [--all | --json] [--budget N]`, or
+/// `find SRC OUT [--effort N] [--budget N]`, with the options anywhere behind the command.
 pub fn words_of<'a>(words: &'a [String]) -> Words<'a> {
     let [command, rest @ ..] = words else {
         return Words::Refused;

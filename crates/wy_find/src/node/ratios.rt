@@ -14,6 +14,9 @@ pub fn whole(n: i128) -> Ratio {
 
 /// The greatest common divisor of the sizes; 0 where one is too large.
 pub fn common(a: i128, b: i128) -> i128 {
+    if a == 1 || b == 1 {
+        return 1;
+    }
     let (Some(x), Some(y)) = (size_of(a), size_of(b)) else {
         return 1;
     };
@@ -67,6 +70,9 @@ pub fn minus(x: Ratio, y: Ratio) -> Option<Ratio> {
 
 /// x * n / d
 pub fn times(x: Ratio, n: i128, d: i128) -> Option<Ratio> {
+    if x.d == 1 && d == 1 {
+        return Some(whole(x.n.checked_mul(n)?));
+    }
     let y = reduced_to(n, d)?;
     let g = common(x.n, y.d);
     let h = common(y.n, x.d);
