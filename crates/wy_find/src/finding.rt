@@ -1,5 +1,5 @@
 //! A certificate for a condition: sought, checked, and such that a file can have it.
-ghost use Rattle.std.specs.Prelude.{◌≡◌, ◌<◌, ℕ, All, length, IfOk, IfSome};
+ghost use Rattle.std.specs.Prelude.{◌≡◌, ◌<◌, ℕ, All, length, true, IfOk, IfSome};
 ghost use Rattle.wy_term.specs.Nodes.{tree_at};
 ghost use Rattle.wy_term.specs.Condition.{condition_of};
 ghost use Rattle.wy_facts.specs.Membership.{AreTypesBelow};
@@ -77,6 +77,22 @@ fn sought(alloc: Global, terms: &Terms, cond: &Cond, effort: u64) -> Result<Opti
     }
 }
 
+// Whether the checker says yes to a certificate.
+fn is_valid(terms: &mut Terms, cond: &Cond, cert: &Cert) -> Result<bool, NoMemory>
+    requires hyps { All (λ h. h < length terms.old) cond.now.hyps.items }
+    requires goal { cond.now.goal < length terms.old }
+    requires types { AreTypesBelow (length terms.old) cond.now }
+    requires cert { NamesItsTerms cert.now }
+    ensures valid { IfOk result (λ b. b ≡ true → IsValid (condition_of terms.old cond.now) (steps_of cert.now)) }
+    ensures length { length terms.new ≡ length terms.old }
+    ensures kept { (t : ℕ) → t < length terms.old → tree_at terms.new t ≡ tree_at terms.old t }
+{
+    match check(terms, cond, cert)? {
+        Checked::Yes => Ok(true),
+        Checked::No(_) => Ok(false),
+    }
+}
+
 /// A valid certificate of a condition that a file can have, if the search finds one with this effort, in steps of its own: the same
 /// for the same condition and effort on every machine. The checker has said yes to it. The terms are as before afterwards.
 pub fn found(terms: &mut Terms, cond: &Cond, effort: u64) -> Result<Option<Cert>, NoMemory>
@@ -92,9 +108,8 @@ pub fn found(terms: &mut Terms, cond: &Cond, effort: u64) -> Result<Option<Cert>
     let Some(cert) = sought(alloc, terms, cond, effort)? else {
         return Ok(None);
     };
-    match check(terms, cond, &cert)? {
-        Checked::Yes => {}
-        Checked::No(_) => return Ok(None),
+    if !is_valid(terms, cond, &cert)? {
+        return Ok(None);
     }
     if is_certificate_writable(&cert)? {
         Ok(Some(cert))
