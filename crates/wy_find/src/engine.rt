@@ -420,7 +420,7 @@ pub fn solve(
     measure(f, terms, cond)?;
     let start = here(f);
     f.limit = 1;
-    f.effort = 60;
+    f.effort = effort.min(60);
     let found = run(f, terms, cond, &start, 3)?;
     if found.is_some() {
         return Ok(found);
