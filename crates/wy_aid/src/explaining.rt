@@ -81,8 +81,8 @@ pub fn explain(
     }
 }
 
-// The place of the first import, if there is one.
-fn import_of(program: Option<&Program>) -> Option<u32> {
+/// The place of the first import, if there is one.
+pub fn import_of(program: Option<&Program>) -> Option<u32> {
     match program {
         Some(program) => match program.imports.get(0) {
             Some(import) => Some(import.1),
@@ -188,8 +188,8 @@ fn explain_conditions(
     })
 }
 
-// The last line, as `check` has it.
-fn put_sum(page: &mut Page, count: u64, open: u64, spent: u64) -> Result<(), NoMemory> {
+/// The last line, as `check` has it.
+pub fn put_sum(page: &mut Page, count: u64, open: u64, spent: u64) -> Result<(), NoMemory> {
     if open == 0 && spent == 0 {
         page.text("accepted ")?;
         page.number(count)?;

@@ -1,7 +1,8 @@
 //! The program `wy_aid`: what stands beside `wy` for people.
 //!
 //! `words` reads the words behind the program's own name, `commands` does what they ask for, and `help` has the table of all commands.
-//! It accepts and runs nothing, and promises nothing of acceptance: what it says comes from the passes and the search that it asks.
+//! It accepts and runs nothing, and promises nothing of acceptance: what it says comes from the passes and the searches that it asks, and
+//! what it saves is certificates, which `wy` judges.
 #![tactic(auto)]
 
 mod commands;
@@ -9,6 +10,7 @@ mod explaining;
 mod help;
 mod judged;
 mod passes;
+mod proving;
 mod splitting;
 mod trying;
 mod words;
@@ -16,7 +18,7 @@ mod words;
 use crate::commands::perform;
 use crate::words::words_of;
 use std::env;
-use std::io::ErrorKind;
+use std::io::{ErrorKind, IsTerminal};
 use std::process::ExitCode;
 use wy_port::{DiskFiles, StdSink};
 
@@ -53,5 +55,13 @@ fn status(rt: &HostRuntime, words: &[String]) -> u8 {
     let mut files = DiskFiles::new(rt);
     let mut out = StdSink::new(rt.stdout());
     let mut err = StdSink::new(rt.stderr());
-    perform(rt.alloc(), words_of(words), &mut files, &mut out, &mut err)
+    let is_terminal = rt.stderr().is_terminal();
+    perform(
+        rt.alloc(),
+        words_of(words),
+        &mut files,
+        &mut out,
+        &mut err,
+        is_terminal,
+    )
 }

@@ -1,4 +1,5 @@
 //! The words of the command line.
+use crate::proving::Effort;
 use wy_explain::Style;
 
 /// What the words ask for.
@@ -13,6 +14,12 @@ pub enum Words<'a> {
         style: Style,
         budget: u64,
     },
+    /// Certificates for the conditions of a source, saved under a name.
+    Find {
+        source: &'a str,
+        out: &'a str,
+        effort: Effort,
+    },
     /// No command of this program.
     Refused,
 }
@@ -20,14 +27,17 @@ pub enum Words<'a> {
 /// The budget of leaves where none is given.
 const BUDGET: u64 = 20_000;
 
-/// The most leaves that may be asked for.
+/// The effort in steps where none is given.
+const EFFORT: u64 = 4_000;
+
+/// The most leaves or steps that may be asked for.
 const MOST: u64 = 1_000_000;
 
 /// The most digits of a number.
 const DIGITS: usize = 7;
 
-/// What the words behind the program's own name ask for: `help`, or `explain SRC [CONDITION] [--all | --json] [--budget N]` with the options
-/// anywhere behind the command.
+/// What the words behind the program's own name ask for: `help`, `explain SRC [CONDITION] [--all | --json] [--budget N]`, or
+/// `find SRC OUT [--effort N] [--budget N]`, with the options anywhere behind the command.
 pub fn words_of<'a>(words: &'a [String]) -> Words<'a> {
     let [command, rest @ ..] = words else {
         return Words::Refused;
@@ -42,7 +52,87 @@ pub fn words_of<'a>(words: &'a [String]) -> Words<'a> {
     if command.as_str() == "explain" {
         return explain(rest);
     }
+    if command.as_str() == "find" {
+        return find(rest);
+    }
     Words::Refused
+}
+
+// What is read so far of the words behind `find`: the option whose number is awaited, and the rest.
+#[derive(Clone, Copy)]
+struct Sought<'a> {
+    source: Option<&'a str>,
+    out: Option<&'a str>,
+    awaited: Awaited,
+    steps: Option<u64>,
+    leaves: Option<u64>,
+}
+
+#[derive(Clone, Copy, PartialEq, Eq)]
+enum Awaited {
+    Nothing,
+    Steps,
+    Leaves,
+}
+
+fn find<'a>(words: &'a [String]) -> Words<'a> {
+    let mut sought = Sought {
+        source: None,
+        out: None,
+        awaited: Awaited::Nothing,
+        steps: None,
+        leaves: None,
+    };
+    for word in words {
+        sought = match sought_with(sought, word.as_str()) {
+            Some(sought) => sought,
+            None => return Words::Refused,
+        };
+    }
+    if sought.awaited != Awaited::Nothing {
+        return Words::Refused;
+    }
+    match (sought.source, sought.out) {
+        (Some(source), Some(out)) => Words::Find {
+            source,
+            out,
+            effort: Effort {
+                steps: sought.steps.unwrap_or(EFFORT),
+                leaves: sought.leaves.unwrap_or(BUDGET),
+            },
+        },
+        _ => Words::Refused,
+    }
+}
+
+// One word more; none where it has no place.
+fn sought_with<'a>(sought: Sought<'a>, word: &'a str) -> Option<Sought<'a>> {
+    let mut sought = sought;
+    match sought.awaited {
+        Awaited::Steps => sought.steps = Some(number(word, 0)?),
+        Awaited::Leaves => sought.leaves = Some(number(word, 0)?),
+        Awaited::Nothing => return sought_word(sought, word),
+    }
+    sought.awaited = Awaited::Nothing;
+    Some(sought)
+}
+
+fn sought_word<'a>(sought: Sought<'a>, word: &'a str) -> Option<Sought<'a>> {
+    let mut sought = sought;
+    if word == "--effort" && sought.steps.is_none() {
+        sought.awaited = Awaited::Steps;
+    } else if word == "--budget" && sought.leaves.is_none() {
+        sought.awaited = Awaited::Leaves;
+    } else if word.starts_with("--") {
+        return None;
+    } else if sought.source.is_none() {
+        sought.source = Some(word);
+    } else if sought.out.is_none() {
+        sought.out = Some(word);
+    } else {
+        return None;
+    }
+    Some(sought)
 }
 
 // What is read so far of the words behind `explain`.
