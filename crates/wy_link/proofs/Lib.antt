@@ -10,3 +10,5 @@ pub mod PlainLemmas
 pub mod FrontLemmas
 -- what is left of a stub's conditions
 pub mod OwingLemmas
+-- which modules the files of a program are
+pub mod GatheringLemmas

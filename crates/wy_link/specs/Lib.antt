@@ -10,3 +10,5 @@ pub mod Plain
 pub mod Fronts
 -- which conditions are a module's own
 pub mod Owing
+-- which modules the files of a program are
+pub mod Gathering
