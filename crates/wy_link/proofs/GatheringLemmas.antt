@@ -8,7 +8,7 @@ use Rattle.std.specs.Str.{bytes_eq}
 use Rattle.wy_lemmas.proofs.Lists.{append_mid, bytes_self, map_pushed, none_behind}
 use Rattle.wy_link_load.proofs.wy_top_answers_proofs.StepLemmas.{never_both, one_value, value_gives}
 use Rattle.wy_link_load.specs.Files.{IsFile, reads, spelled}
-use Rattle.wy_link_load.specs.Imports.{file_name, import_file, import_of}
+use Rattle.wy_link_load.specs.Imports.{file_name, import_file, import_of, name_of}
 use Rattle.wy_link_load.specs.Loading.{Load, comes_to, follows, loads, loads_around, loads_behind, loads_file, loads_import, loads_imports}
 use Rattle.wy_link_load.specs.declared.file.SourceFile.{SourceFile}
 use Rattle.wy_link_load.specs.declared.importing.Import.{Import}
@@ -26,14 +26,18 @@ use Rattle.wy_port.specs.FilesInMemory.{is_among}
 
 -- what follows where two steps came to a value
 steps_of : {X Y : Type 0} (first : Came X → Type 0) (next : X → Came Y → Type 0) (y : Y) (G : Type 0) → ((x : X) → first (Ok x) → next x (Ok y) → G) → Follows first next (Ok y) → G
-steps_of first next y G then (goes_on x h g) = then x h g
-steps_of first next y G then (ends a h e) = absurd (never_both y a e)
+steps_of first next y G both (goes_on x h g) = both x h g
+steps_of first next y G both (ends a h e) = absurd (never_both y a e)
 
 -- ---- names among others
 
 true_or : (b x y : Bool) → (x ≡ true → y ≡ true) → (if b then true else x) ≡ true → (if b then true else y) ≡ true
 true_or true x y h e = refl
 true_or false x y h e = h e
+
+true_both : (b : Bool) → (if b then true else true) ≡ true
+true_both true = refl
+true_both false = refl
 
 true_if : (b x : Bool) → b ≡ true → (if b then true else x) ≡ true
 true_if b x e = ap (λ (c : Bool). if c then true else x) e
@@ -46,11 +50,7 @@ among_more (f ∷ fs) more name e =
 among_last : (fs : List SourceFile) (f : SourceFile) (name : List ℕ) → f.name ≡ name → is_among (map file_name (fs ++ f ∷ [])) name ≡ true
 among_last [] f name e = true_if (bytes_eq f.name name) false (ap (λ (n : List ℕ). bytes_eq f.name n) (sym e) ∙ bytes_self f.name)
 among_last (g ∷ fs) f name e =
-    true_or (bytes_eq g.name name) true (is_among (map file_name (fs ++ f ∷ [])) name) (λ h. among_last fs f name e) (true_one (bytes_eq g.name name))
-  where
-    true_one : (b : Bool) → (if b then true else true) ≡ true
-    true_one true = refl
-    true_one false = refl
+    true_or (bytes_eq g.name name) true (is_among (map file_name (fs ++ f ∷ [])) name) (λ h. among_last fs f name e) (true_both (bytes_eq g.name name))
 
 -- ---- files behind those that they import
 
@@ -116,11 +116,11 @@ import_comes : (room : ℕ) (load : Load) → Grown room load → (stack : List 
     → import_of room stack finished earlier name target ≡ i → Behind [] finished → length finished ≤ room → follows load file at target finished i stated (Ok files) → Comes room target finished files
 import_comes room load grown stack file at earlier name target finished files Loaded is behind few h =
     let same : files ≡ finished = one_value finished files h in
-    let found = loaded_among (is_among stack target) _ (is_among (map file_name finished) target) (nat_lt (length finished) room) is in
+    let found = loaded_among (is_among stack target) (is_among (map name_of earlier) name) (is_among (map file_name finished) target) (nat_lt (length finished) room) is in
     subst (λ (fs : List SourceFile). Comes room target finished fs) (sym same)
     (record { grows = record { more = []; is = sym (none_behind finished); behind = behind; few = few }; found = found })
 import_comes room load grown stack file at earlier name target finished files New is behind few h =
-    let within = new_within (is_among stack target) _ (is_among (map file_name finished) target) (nat_lt (length finished) room) is in
+    let within = new_within (is_among stack target) (is_among (map name_of earlier) name) (is_among (map file_name finished) target) (nat_lt (length finished) room) is in
     grown target finished files behind (ltb-true (length finished) room within) h
 import_comes room load grown stack file at earlier name target finished files (Refused fault) is behind few h = absurd (never_both files _ h)
 
@@ -138,13 +138,13 @@ imports_come room load grown stack file earlier [] finished files behind few h =
 imports_come room load grown stack file earlier (import ∷ imports) finished files behind few h =
     steps_of (loads_import load room stack file earlier import finished stated) (λ between. loads_imports load room stack file (earlier ++ import ∷ []) imports between stated) files
     (Imports room file.name (import ∷ imports) finished files)
-    (λ between first then.
+    (λ between first others.
     let target = import_file file.name import.0 in
     let one = import_comes room load grown stack file import.1 earlier import.0 target finished between (import_of room stack finished earlier import.0 target) refl behind few first in
-    let others = imports_come room load grown stack file (earlier ++ import ∷ []) imports between files one.grows.behind one.grows.few then in
+    let rest = imports_come room load grown stack file (earlier ++ import ∷ []) imports between files one.grows.behind one.grows.few others in
     record {
-      grows = joined room finished between files one.grows others.grows;
-      finds = (subst (λ (fs : List SourceFile). is_among (map file_name fs) target ≡ true) (sym others.grows.is) (among_more between others.grows.more target one.found), others.finds);
+      grows = joined room finished between files one.grows rest.grows;
+      finds = (subst (λ (fs : List SourceFile). is_among (map file_name fs) target ≡ true) (sym rest.grows.is) (among_more between rest.grows.more target one.found), rest.finds);
     }) h
 
 -- ---- a file
@@ -187,11 +187,10 @@ record IsWhole (sources : Sources) : Type 0 where
   behind : Behind [] (files_of sources)
   few : length sources.imported ≤ 63
 
-sources_of : SourceFile → List SourceFile → Sources
+abbrev sources_of : SourceFile → List SourceFile → Sources
 sources_of source files = record { imported = files; source = source }
 
 whole : (s : Setting) (name : List ℕ) (sources : Sources) → loads s name stated (Ok sources) → IsWhole sources
-unfolding sources_of
 whole s name sources h =
     steps_of (reads s name stated) (λ source. loads_behind s source stated) sources (IsWhole sources)
     (λ source read behind.

@@ -26,3 +26,5 @@ pub use gathering::{FileText, ModuleSet, load_modules};
 pub use law::{a_place_tells_its_module, a_stub_depends_on_headers};
 pub use module::{MOST_MODULES, Module, SPAN, Spot, spot_of};
 pub use owing::{Unit, owed};
+pub use wy_flow::{FlowFault, Typed};
+pub use wy_names::NameFault;

@@ -1,11 +1,13 @@
 //! Modules that are put together. What each comes to was worked out by hand from the rules of the language.
 use std::alloc::{AllocError, Global};
 use wy_core::Decl;
-use wy_flow_spec::typing::{FlowFault, Typed};
 use wy_items::Items;
-use wy_link::{LinkFault, MOST_MODULES, Module, SPAN, Spot, front, link, owed, spot_of};
-use wy_names::NameFault;
+use wy_link::{
+    FlowFault, LinkFault, MOST_MODULES, Module, ModuleSet, NameFault, SPAN, Spot, Typed, front, link,
+    load_modules, owed, spot_of,
+};
 use wy_parse_front::read;
+use wy_port::{MemFiles, have_different_names};
 
 // A source that is read is no longer than this.
 const LONGEST: usize = 1_048_576;
@@ -38,8 +40,9 @@ const ONE: &str = "function one() -> (int r):\n    return 1\n";
 // What APP owes: of `up(n)` twice, of the declaration around it, and of `return m`.
 const OWED: &str = "member 1:87 requires 1:87 member 1:79 ensures 1:97 skip 1";
 
+/// Why a test has no answer to look at.
 #[derive(Debug, Drop)]
-enum Trouble {
+pub enum Trouble {
     NoMemory,
     NoProgram,
     NoModule,
@@ -73,8 +76,8 @@ fn put(
     Ok(())
 }
 
-// Modules, each of which imports the one before it.
-fn chain(alloc: Global, texts: &[&str]) -> Result<Items<Module>, Trouble> {
+/// Modules, each of which imports the one before it.
+pub fn chain(alloc: Global, texts: &[&str]) -> Result<Items<Module>, Trouble> {
     let mut modules = Items::new(alloc);
     for text in texts {
         let number = modules.len() as u32;
@@ -87,7 +90,8 @@ fn chain(alloc: Global, texts: &[&str]) -> Result<Items<Module>, Trouble> {
     Ok(modules)
 }
 
-fn typed(alloc: Global, modules: &[Module], k: u32) -> Result<Typed, Trouble> {
+/// A module with names and types.
+pub fn typed(alloc: Global, modules: &[Module], k: u32) -> Result<Typed, Trouble> {
     if modules.len() > MOST_MODULES || k as usize >= modules.len() {
         return Err(Trouble::NoModule);
     }
@@ -245,5 +249,55 @@ fn the_linked_program_has_all_declarations(rt: HostRuntime) -> Result<(), Troubl
         Err(fault) => return Err(Trouble::Refused(fault)),
     };
     assert_eq!(rt; names(alloc, &typed)?.as_str(), "nat up two ");
+    Ok(())
+}
+
+// Files, each with what it imports.
+const FILES: [(&str, &str); 5] = [
+    ("lib/app.wy", "import left\nimport right\n"),
+    ("lib/left.wy", "import base\n"),
+    ("lib/right.wy", "import base\nimport left\n"),
+    ("lib/base.wy", "type nat is (int x) where x >= 0\n"),
+    ("base.wy", "import nosuch\n"),
+];
+
+fn files(alloc: Global) -> Result<MemFiles, Trouble> {
+    let mut all = Vec::new(alloc);
+    for (name, text) in FILES {
+        let name = String::from_str(alloc, name)?;
+        all.push((name, Vec::from_slice(alloc, text.as_bytes())?))?;
+    }
+    if !have_different_names(&all) {
+        return Err(Trouble::NoModule);
+    }
+    Ok(MemFiles::new(all, Vec::new(alloc)))
+}
+
+// Each module's file, how many bytes it has, and the numbers of those that it imports.
+fn told(alloc: Global, set: &ModuleSet) -> Result<String, Trouble> {
+    let mut text = String::new(alloc);
+    for (file, module) in set.files.as_slice().iter().zip(set.modules.as_slice()) {
+        let (name, bytes) = (file.name.as_str(), file.bytes.as_slice().len());
+        text.push_str(&format!(in alloc; "{name} {bytes}:")?)?;
+        for import in module.imports.as_slice() {
+            text.push_str(&format!(in alloc; " {import}")?)?;
+        }
+        text.push_str(";")?;
+    }
+    Ok(text)
+}
+
+#[test]
+fn files_are_modules_in_link_order(rt: HostRuntime) -> Result<(), Trouble> {
+    let alloc = rt.alloc();
+    let mut files = files(alloc)?;
+    let set = match load_modules(alloc, "lib/app.wy", &mut files) {
+        Ok(set) => set,
+        Err(_) => return Err(Trouble::NoModule),
+    };
+    let text = told(alloc, &set)?;
+    let wanted = "lib/base.wy 33:;lib/left.wy 12: 0;lib/right.wy 24: 0 1;lib/app.wy 25: 1 2;";
+    assert_eq!(rt; text.as_str(), wanted);
+    assert!(rt; typed(alloc, set.modules.as_slice(), 3).is_ok());
     Ok(())
 }
