@@ -6,9 +6,10 @@ use Rattle.wy_link.specs.Gathering.{set_of}
 use Rattle.wy_link.proofs.gathering.load_modules.Goals as goal
 
 pub gathered-requires : goal.gathered-requires
-gathered-requires g c =
-    few_imported _ c.args.name.now c.in-Ok.sources
-    (stated_value _ _ c.in-Ok.sources (c.in-Ok.ensures.gives _ (during_itself _ _ _ _ _ c.in-Ok.ensures.load_count c.in-Ok.ensures.miss_count)))
+gathered-requires g c = record {
+  few = few_imported _ c.args.name.now c.in-Ok.sources
+      (stated_value _ _ c.in-Ok.sources (c.in-Ok.ensures.gives _ (during_itself _ _ _ _ _ c.in-Ok.ensures.load_count c.in-Ok.ensures.miss_count)));
+}
 
 pub returns-in-Ok-clause-gives : goal.returns-in-Ok-clause-gives
 returns-in-Ok-clause-gives g c = λ s during. goes s (loads s c.args.name.now) (λ sources. comes_to (set_of sources)) c.in-Ok.sources c.gathered.result (c.in-Ok.ensures.gives s during) (c.gathered.ensures.gives s)
