@@ -228,9 +228,10 @@ numbers_below files file (import ∷ imports) =
 in_order : (number : ℕ) (files : List FileText) (fs : List SourceFile) → number ≡ length files → AreInOrder number (modules_behind files fs)
 in_order number files [] same = tt
 in_order number files (f ∷ fs) same =
-    let next : length (files ++ text_of f ∷ []) ≡ length files + 1 = length-append files (text_of f ∷ []) in
-    (subst (λ (n : ℕ). AllByRecursion (λ i. i < n) (numbers_of files f.name f.program.imports)) (sym same) (numbers_below files f.name f.program.imports),
-    in_order (number + 1) (files ++ text_of f ∷ []) fs (omega (arith, same, next)))
+    let next : length (files ++ text_of f ∷ []) ≡ length files + 1 = length-append files (text_of f ∷ []) in (
+      subst (λ (n : ℕ). AllByRecursion (λ i. i < n) (numbers_of files f.name f.program.imports)) (sym same) (numbers_below files f.name f.program.imports),
+      in_order (number + 1) (files ++ text_of f ∷ []) fs (omega (arith, same, next)),
+    )
 
 modules_count : (files : List FileText) (fs : List SourceFile) → length (modules_behind files fs) ≡ length fs
 modules_count files [] = refl
@@ -257,9 +258,10 @@ imports_count before file (import ∷ imports) finds =
 
 each_import : (before : List SourceFile) (files : List FileText) (fs : List SourceFile) → map text_of before ≡ files → Behind before fs → AllByRecursion HasItsImports (modules_behind files fs)
 each_import before files [] same behind = tt
-each_import before files (f ∷ fs) same behind =
-    (subst (λ (ts : List FileText). HasItsImports (module_of ts f)) same (imports_count before f.name f.program.imports behind.0.finds),
-    each_import (before ++ f ∷ []) (files ++ text_of f ∷ []) fs (map_pushed text_of before f ∙ ap (λ (ts : List FileText). ts ++ text_of f ∷ []) same) behind.1)
+each_import before files (f ∷ fs) same behind = (
+  subst (λ (ts : List FileText). HasItsImports (module_of ts f)) same (imports_count before f.name f.program.imports behind.0.finds),
+  each_import (before ++ f ∷ []) (files ++ text_of f ∷ []) fs (map_pushed text_of before f ∙ ap (λ (ts : List FileText). ts ++ text_of f ∷ []) same) behind.1,
+)
 
 each_short : (before fs : List SourceFile) → Behind before fs → AllByRecursion IsShort (map text_of fs)
 each_short before [] behind = tt

@@ -12,3 +12,5 @@ pub mod FrontLemmas
 pub mod OwingLemmas
 -- which modules the files of a program are
 pub mod GatheringLemmas
+-- modules put one behind the other
+pub mod EachLemmas

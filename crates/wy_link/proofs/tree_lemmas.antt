@@ -4,3 +4,7 @@ pub mod ListLemmas
 pub mod ChainLemmas
 -- a name without its mark
 pub mod MarkLemmas
+-- where nothing is left
+pub mod EndLemmas
+-- records, quantifiers and switches whose parts were rewritten
+pub mod SeenLemmas

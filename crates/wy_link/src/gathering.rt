@@ -31,11 +31,7 @@ pub struct ModuleSet {
 /// The modules of the program whose source has this name, or the answer of why it has none, as `load_program` has it.
 ///
 /// Linear in the files, beside comparing each import with the names of at most 64 files.
-pub fn load_modules<F: Files>(
-    alloc: Global,
-    name: &str,
-    files: &mut F,
-) -> Result<ModuleSet, Answer>
+pub fn load_modules<F: Files>(alloc: Global, name: &str, files: &mut F) -> Result<ModuleSet, Answer>
     ensures gives { During (F.told files.old) (F.load_faults files.old) (F.load_faults files.new) (F.misses files.old) (F.misses files.new) (λ s. Gives s (spec.loads_modules s name.now) result) }
     ensures linkable { IfOk result spec.IsLinkable }
     ensures kept { (other : List ℕ) → F.told files.new other ≡ F.told files.old other }

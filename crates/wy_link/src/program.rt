@@ -1,5 +1,5 @@
 //! Modules put together: a module behind the headers of those before it, and all of them whole.
-ghost use Rattle.std.specs.Prelude.{◌≡◌, ◌<◌, ◌≤◌, ◌++◌, length, map, IfOk, OnOk};
+ghost use Rattle.std.specs.Prelude.{◌≡◌, ◌<◌, ◌≤◌, ◌++◌, length, map, slice_get, IfOk, OnOk};
 ghost use Rattle.wy_ast.specs.SurfaceSeen.{seen_decl};
 ghost use Rattle.wy_names_scope.specs.Declarations as declarations;
 ghost use Rattle.wy_link.specs.Modules as spec;
@@ -97,11 +97,24 @@ fn put_imports(
     ensures value { OnOk result (names.new ≡ spec.with_imports modules.now names.old imports.now) }
 {
     for import in imports {
-        if let Some(seen) = modules.get(*import as usize) {
-            put_names(alloc, names, seen.program.decls.as_slice())?;
-        }
+        put_import(alloc, names, modules, *import)?;
     }
     Ok(())
+}
+
+// Puts the names of the declarations of the module with this number behind the others.
+fn put_import(
+    alloc: Global,
+    names: &mut Table,
+    modules: &[Module],
+    import: u32,
+) -> Result<(), AllocError>
+    ensures value { OnOk result (names.new ≡ spec.with_import names.old (slice_get modules.now import)) }
+{
+    match modules.get(import as usize) {
+        Some(seen) => put_names(alloc, names, seen.program.decls.as_slice()),
+        None => Ok(()),
+    }
 }
 
 // Puts the names of these declarations behind the others.

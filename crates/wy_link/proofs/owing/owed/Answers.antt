@@ -7,8 +7,8 @@ use Rattle.wy_vc.specs.Listed.{HasTypesOnce}
 use Rattle.wy_vc.specs.Told.{IsCond, seen_cond}
 use Rattle.wy_link.proofs.owing.owed.Goals as goal
 
-pub before-requires : goal.before-requires
-before-requires c = record {
+pub before-skip-requires : goal.before-skip-requires
+before-skip-requires c = record {
   few = subst (λ (cs : List Cond). length cs ≤ 16384) (sym c.as_slice.ensures.value)
       (few_listed c.args.typed.now c.in-Ok.conds.terms c.in-Ok.conds.list.items c.in-Ok.ensures.list c.in-Ok.ensures.within);
 }
