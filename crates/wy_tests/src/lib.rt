@@ -1,7 +1,7 @@
 //! Tests of what no command shows, in one crate, since a crate with tests is proved twice and its tests are linked with all
 //! that they stand on.
 //!
-//! `reading` and `types` have the example of a reader and normal forms of types. `congruence` and `elimination` have the
+//! `reading`, `types` and `modules` have the example of a reader, normal forms of types, and modules that are put together. `congruence` and `elimination` have the
 //! least congruence of equations between nodes, and the steps and numbers of an elimination. `rows` has routines of the
 //! machine under caps, counts of steps and sinks that no command sets: `assembler` makes code of texts, `turns` makes turns
 //! until they end, and `ends` says how they do. `drawing` has the shared counter, and `discharging` the workers that draw
@@ -22,6 +22,8 @@ mod elimination;
 mod ends;
 #[cfg(test)]
 mod gates;
+#[cfg(test)]
+mod modules;
 #[cfg(test)]
 mod owing;
 #[cfg(test)]
