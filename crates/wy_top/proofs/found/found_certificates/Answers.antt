@@ -34,9 +34,9 @@ loop-i-preserved c =
           let searched = searched_at c.args.budget 1 (condition_of old) c.args.conds.now c.args.verdicts.now i cond v lt lv c.index-conds-i.is c.index-verdicts-i.is all in
           let here = subst (λ (d : Condition). IsSearched d c.args.budget (seen_end v.end)) (sym same) searched in
           let there = subst (λ (w : Verdict). IsSearched (condition_of now cond) c.args.budget (seen_end w.end)) c.index-verdicts-i.is here in
-          found_turn (condition_of old) c.args.conds.now c.args.verdicts.now i (i + 1) cond (condition_of now cond) v (certificates_of c.loop-i.certs) (certificates_of c.in_ok-certs.field-0)
+          found_turn (condition_of old) c.args.conds.now c.args.verdicts.now i (i + 1) cond (condition_of now cond) v (certificates_of c.loop-i.certs) (certificates_of c.in_ok-certs.certs)
           c.requires.each lt c.index-conds-i.is c.index-verdicts-i.is refl same (c.loop-i.invariant.so_far all)
-          (subst (λ (w : Verdict). IsMore (i + 1) (condition_of now cond) (seen_end w.end) (certificates_of c.loop-i.certs) (certificates_of c.in_ok-certs.field-0)) (sym c.index-verdicts-i.is) (c.in_ok-certs.ensures.value there));
+          (subst (λ (w : Verdict). IsMore (i + 1) (condition_of now cond) (seen_end w.end) (certificates_of c.loop-i.certs) (certificates_of c.in_ok-certs.certs)) (sym c.index-verdicts-i.is) (c.in_ok-certs.ensures.value there));
       named = c.in_ok-certs.ensures.named;
       same = c.in_ok-certs.ensures.length ∙ c.loop-i.invariant.same;
       kept = λ t less. c.in_ok-certs.ensures.kept t (omega (arith, less, c.loop-i.invariant.same)) ∙ c.loop-i.invariant.kept t less;
