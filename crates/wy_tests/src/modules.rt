@@ -3,8 +3,8 @@ use std::alloc::{AllocError, Global};
 use wy_core::Decl;
 use wy_items::Items;
 use wy_link::{
-    FlowFault, LinkFault, MOST_MODULES, Module, ModuleSet, NameFault, SPAN, Spot, Typed, front, link,
-    load_modules, owed, spot_of,
+    FlowFault, LinkFault, MOST_MODULES, Module, ModuleSet, NameFault, SPAN, Spot, Typed, front,
+    link, load_modules, owed, spot_of,
 };
 use wy_parse_front::read;
 use wy_port::{MemFiles, have_different_names};

@@ -1,8 +1,9 @@
 -- A record, a quantifier and a switch whose parts were rewritten stand for what the rewriting says.
 use Rattle.std.proofs.Common.{◌≡◌, ◌∙◌, ℕ, Bool, List, Some, map, sym, ap, rules}
+use Rattle.std.specs.Option.{option_map}
 use Rattle.std.specs.Prelude.{Option}
 use Rattle.wy_ast.specs.SurfaceTree as tree
-use Rattle.wy_ast.specs.SurfaceSeen.{SeenCase, seen_block, seen_expr, seen_fields, seen_ranges, seen_stmt, seen_ty}
+use Rattle.wy_ast.specs.SurfaceSeen.{SeenCase, seen_block, seen_expr, seen_fields, seen_ranges, seen_stmt, seen_ty, switch_of}
 use Rattle.wy_ast.specs.declared.types.Ty as t
 use Rattle.wy_ast.specs.declared.types.Ty.{Ty}
 use Rattle.wy_ast.specs.declared.types.TyKind as ty_kind
@@ -76,13 +77,21 @@ quant_expr sight x at all rs ranges lent made body is place same chain inner =
 
 -- ---- switches with a default
 
+seen_any_switch : (x : Stmt) (value : Expr) (cs : List Case) (d : Option (List Stmt)) → x.kind ≡ stmt_kind.Switch value cs d
+    → seen_stmt x ≡ switch_of x.at (seen_expr value) (tree.cases_of (map seen_case cs)) (option_map (map seen_stmt) d)
+seen_any_switch x value cs d is = search (rules, s.the_lemmas)
+
+made_any_switch : (at : ℕ) (value : Expr) (cs : List Case) (d : Option (List Stmt))
+    → seen_stmt (s.roll-Stmt (record { at = at; kind = stmt_kind.Switch value cs d })) ≡ switch_of at (seen_expr value) (tree.cases_of (map seen_case cs)) (option_map (map seen_stmt) d)
+made_any_switch at value cs d = search (rules, s.the_lemmas)
+
 seen_switch : (x : Stmt) (value : Expr) (cs : List Case) (block : List Stmt) → x.kind ≡ stmt_kind.Switch value cs (Some block)
     → seen_stmt x ≡ tree.SwitchElseStmt x.at (seen_expr value) (tree.cases_of (map seen_case cs)) (seen_block block)
-seen_switch x value cs block is = search (rules, s.the_lemmas)
+seen_switch x value cs block is = seen_any_switch x value cs (Some block) is
 
 made_switch : (at : ℕ) (value : Expr) (cs : List Case) (block : List Stmt)
     → seen_stmt (s.roll-Stmt (record { at = at; kind = stmt_kind.Switch value cs (Some block) })) ≡ tree.SwitchElseStmt at (seen_expr value) (tree.cases_of (map seen_case cs)) (seen_block block)
-made_switch at value cs block = search (rules, s.the_lemmas)
+made_switch at value cs block = made_any_switch at value cs (Some block)
 
 pub switch_stmt : (sight : Sight) (x : Stmt) (at : ℕ) (made value : Expr) (new cs lent : List Case) (default : Option (List Stmt)) (inner block own : List Stmt)
     → x.kind ≡ stmt_kind.Switch value cs default → default ≡ Some block → at ≡ moved sight x.at → seen_expr made ≡ exprs.in_expr sight (seen_expr value) → lent ≡ cs
