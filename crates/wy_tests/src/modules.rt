@@ -1,5 +1,5 @@
 //! Modules that are put together. What each comes to was worked out by hand from the rules of the language.
-use std::alloc::{AllocError, Global};
+use std::alloc::{AllocError, AllocFailed, Global};
 use wy_core::Decl;
 use wy_items::Items;
 use wy_link::{
@@ -52,6 +52,12 @@ pub enum Trouble {
 
 impl From<AllocError> for Trouble {
     fn from(_: AllocError) -> Trouble {
+        Trouble::NoMemory
+    }
+}
+
+impl<T: Drop> From<AllocFailed<T>> for Trouble {
+    fn from(_: AllocFailed<T>) -> Trouble {
         Trouble::NoMemory
     }
 }
