@@ -12,6 +12,8 @@ pub mod LeafLemmas
 pub mod TurningLemmas
 -- answers
 pub mod AnswerLemmas
+-- a condition, behind its search
+pub mod SearchLemmas
 -- passed on to the crates above
 pub use Rattle.wy_prove_writable.proofs as wy_prove_writable_proofs
 pub use Rattle.wy_prove_leaves.proofs.wy_search_laws_proofs as wy_search_laws_proofs

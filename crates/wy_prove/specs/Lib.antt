@@ -1,5 +1,6 @@
 -- what public contracts cite
 pub mod Answers
+pub mod Ends
 -- what functions inside owe each other
 pub mod Tracks
 pub mod Plans

@@ -16,8 +16,10 @@ mod leaves;
 mod numbers;
 mod plans;
 mod rounds;
+mod searching;
 mod turning;
 mod walking;
 
 pub use answering::certified;
+pub use searching::{SearchEnd, searched};
 pub use wy_prove_rounds::{Carried, OpenLeaf, Verdict, Why, nothing_carried, search};
