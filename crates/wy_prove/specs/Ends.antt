@@ -1,5 +1,5 @@
--- How a search ends that answers with a certificate of what it finds.
-use Rattle.std.specs.Prelude.{ℕ, map, length}
+-- How does a search end that answers with a certificate of what it finds?
+use Rattle.std.specs.Prelude.{◌≡◌, ℕ, map, length}
 use Rattle.wy_term.specs.Condition.{Condition}
 use Rattle.wy_term.specs.Nodes.{tree_at}
 use Rattle.wy_cert.specs.declared.step.Cert.{Cert}
@@ -20,8 +20,8 @@ pub record Shows (c : Condition) (cert : Cert) : Type 0 where
   pub writable : AreWritable (steps_of cert)
   pub names : NamesItsTerms cert
 
--- the verdict is the search's; what is found comes with a certificate, and the literals of an open leaf name terms of its own
+-- the verdict is the search's; what is found comes with a certificate, the literals of an open leaf name terms of its own, and where the budget is spent it is told
 abbrev pub IsEnd : Condition → ℕ → SearchEnd → Type 0
 IsEnd c budget (ends.Found cert leaves) = IsVerdict c budget (found leaves) × Shows c cert
 IsEnd c budget (ends.Open o) = IsVerdict c budget (open_leaf o.leaf (seen_why o.why) (map (seen_literal (tree_at o.terms)) o.literals.items)) × AreOver (length o.terms) o.literals.items
-IsEnd c budget ends.Spent = IsVerdict c budget spent
+IsEnd c budget (ends.Spent leaves) = IsVerdict c budget spent × (leaves ≡ budget)

@@ -19,8 +19,8 @@ pub enum SearchEnd {
     Found { cert: Cert, leaves: u64 },
     /// A leaf is open.
     Open(OpenLeaf),
-    /// There are more leaves than the budget allows, and none of the first so many is open.
-    Spent,
+    /// There are more leaves than the budget, which is this, and none of the first so many is open.
+    Spent { leaves: u64 },
 }
 
 // The end of a search that finds, of so many leaves.
@@ -46,9 +46,9 @@ fn found(
     }
 }
 
-/// The end of the search of a condition, at a budget of leaves, as part J of the specification has it: with the certificate that its
-/// own tree gives where it finds. The certificate is valid, of sorted terms, and can be written. The terms are as before afterwards,
-/// at want of memory too. It takes the time of `search`, and where that finds, that of `certified`.
+/// The end of the search of a condition at a budget of leaves, with the certificate that its own tree gives where it finds. The
+/// certificate is valid, of sorted terms, and can be written. The terms are as before afterwards, at want of memory too. It takes the
+/// time of `search`, and where that finds, that of `certified`.
 pub fn searched(terms: &mut Terms, cond: &Cond, budget: u64) -> Result<SearchEnd, NoMemory>
     requires hyps { All (λ h. h < length terms.old) cond.now.hyps.items }
     requires goal { cond.now.goal < length terms.old }
@@ -63,6 +63,6 @@ pub fn searched(terms: &mut Terms, cond: &Cond, budget: u64) -> Result<SearchEnd
     match verdict {
         Verdict::Found(leaves) => found(terms, cond, budget, leaves),
         Verdict::Open(leaf) => Ok(SearchEnd::Open(leaf)),
-        Verdict::Spent => Ok(SearchEnd::Spent),
+        Verdict::Spent => Ok(SearchEnd::Spent { leaves: budget }),
     }
 }

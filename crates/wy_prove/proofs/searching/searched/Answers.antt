@@ -1,4 +1,4 @@
-use Rattle.std.proofs.Common.{◌∙◌, ◌<◌, ℕ, All, arith, length, sym, subst}
+use Rattle.std.proofs.Common.{◌∙◌, ◌<◌, ℕ, All, arith, length, refl, sym, subst}
 use Rattle.std.specs.Prelude.{IfOk}
 use Rattle.wy_prove.specs.Answers.{IsFormedThroughout}
 use Rattle.wy_prove.specs.Ends.{IsEnd}
@@ -55,4 +55,5 @@ returns-in-Open-clause-end c =
     (subst (λ (v : Verdict). IsVerdict (condition_of c.args.terms.now c.args.cond.now) c.args.budget (seen_verdict v)) c.in-Open.is c.in_ok-verdict.ensures.verdict, subst NamesItsTerms c.in-Open.is c.in_ok-verdict.ensures.within)
 
 pub returns-in-Spent-clause-end : goal.returns-in-Spent-clause-end
-returns-in-Spent-clause-end c = subst (λ (v : Verdict). IsVerdict (condition_of c.args.terms.now c.args.cond.now) c.args.budget (seen_verdict v)) c.in-Spent.is c.in_ok-verdict.ensures.verdict
+returns-in-Spent-clause-end c =
+    (subst (λ (v : Verdict). IsVerdict (condition_of c.args.terms.now c.args.cond.now) c.args.budget (seen_verdict v)) c.in-Spent.is c.in_ok-verdict.ensures.verdict, refl)
