@@ -1,5 +1,6 @@
 //! What becomes of a node of the search.
-ghost use Rattle.std.specs.Prelude.{◌≡◌, ◌<◌, Some, IfOk, IfSome, length};
+ghost use Rattle.std.specs.Prelude.{◌≡◌, ◌<◌, Some, IfOk, IfSome, OnOk, length};
+ghost use Rattle.wy_prove_rounds.specs.wy_search_bounds.Known.{AreKnown};
 ghost use Rattle.wy_prove_rounds.specs.wy_search_bounds.Seen.{seen_ending};
 ghost use Rattle.wy_prove.specs.Turns.{is_refutation, IsClosing, IsJudged, IsNext, IsOpenNode, IsPlanOver};
 ghost use Rattle.wy_prove_rounds.specs.wy_cong.Seen.{terms_of, IsPresent};
@@ -12,7 +13,7 @@ ghost use Rattle.wy_term.specs.Nodes.{tree_at};
 
 use wy_prove_explaining::{Action, Branch, is_shut, why_it_refutes, why_they_clash};
 use wy_prove_rounds::{
-    Ending, Present, Spot, classes, classes_clash, copied, ending_of_elimination, no_forms,
+    Ending, KnownForms, Present, Spot, classes, classes_clash, copied, ending_of_elimination,
     terms_present, with_atom, with_next_atom,
 };
 use wy_term::{NoMemory, Terms};
@@ -61,17 +62,19 @@ fn refutes(end: Ending) -> bool
 // Whether elimination refutes a node.
 fn is_refuted(
     terms: &mut Terms,
+    known: &mut KnownForms,
     branch: &Branch,
     present: &Present,
     labels: &[u32],
 ) -> Result<bool, NoMemory>
     requires branch { IsBranch terms.old branch.now }
+    requires known { AreKnown terms.old known.old }
     requires present { IsPresent terms.old present.now }
+    ensures known { OnOk result (AreKnown terms.new known.new) }
     ensures value { IfOk result (λ yes. yes ≡ is_refutation (ending_by (replaced_forms (terms_of (tree_at terms.old) present.now) labels.now (seen_branch (tree_at terms.old) branch.now).literals))) }
     ensures stays { Stays terms.old terms.new }
 {
-    let mut known = no_forms(terms.allocator(), 0);
-    let end = ending_of_elimination(terms, &mut known, branch, present, labels)?;
+    let end = ending_of_elimination(terms, known, branch, present, labels)?;
     Ok(refutes(end))
 }
 
@@ -93,10 +96,16 @@ fn refuting(
 }
 
 // The plan of a node that is closed by its classes or by elimination.
-fn closing(terms: &mut Terms, branch: &Branch) -> Result<Option<Plan>, NoMemory>
+fn closing(
+    terms: &mut Terms,
+    known: &mut KnownForms,
+    branch: &Branch,
+) -> Result<Option<Plan>, NoMemory>
     requires branch { IsBranch terms.old branch.now }
+    requires known { AreKnown terms.old known.old }
     ensures value { IfOk result (IsClosing (tree_at terms.old) (seen_branch (tree_at terms.old) branch.now)) }
     ensures plan { IfOk result (λ o. IfSome o (IsPlanOver terms.old)) }
+    ensures known { OnOk result (AreKnown terms.new known.new) }
     ensures stays { Stays terms.old terms.new }
 {
     let present = terms_present(terms, branch)?;
@@ -105,7 +114,7 @@ fn closing(terms: &mut Terms, branch: &Branch) -> Result<Option<Plan>, NoMemory>
         let actions = why_they_clash(terms, branch, &present, &labels)?;
         return Ok(Some(Plan { present, actions }));
     }
-    if is_refuted(terms, branch, &present, &labels)? {
+    if is_refuted(terms, known, branch, &present, &labels)? {
         let actions = refuting(terms, branch, &present, &labels)?;
         return Ok(Some(Plan { present, actions }));
     }
@@ -141,17 +150,24 @@ fn on_open(terms: &Terms, spot: Spot) -> Result<Next, NoMemory>
     }
 }
 
-/// What becomes of a node of the search, judged anew from its literals and pending formulas. Older numbers name what they named.
-pub fn what_follows(terms: &mut Terms, spot: Spot) -> Result<Next, NoMemory>
+/// What becomes of a node of the search, judged anew from its literals and pending formulas. The form of a literal is made once for all
+/// nodes that carry on with the same. Older numbers name what they named.
+pub fn what_follows(
+    terms: &mut Terms,
+    known: &mut KnownForms,
+    spot: Spot,
+) -> Result<Next, NoMemory>
+    requires known { AreKnown terms.old known.old }
     requires spot { IsSpot terms.old spot }
     ensures value { IfOk result (IsJudged (tree_at terms.new) (seen_spot (tree_at terms.old) spot)) }
     ensures next { IfOk result (IsNext terms.new) }
+    ensures known { OnOk result (AreKnown terms.new known.new) }
     ensures stays { Stays terms.old terms.new }
 {
     if is_shut(terms, &spot.branch)? {
         return Ok(Next::Shut);
     }
-    match closing(terms, &spot.branch)? {
+    match closing(terms, known, &spot.branch)? {
         Some(plan) => Ok(Next::Closes(Leaf { spot, plan })),
         None => on_open(terms, spot),
     }

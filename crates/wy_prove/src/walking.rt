@@ -13,6 +13,7 @@ ghost use Rattle.wy_prove_explaining.specs.wy_check_nodes.Seen.{seen_branch, IsB
 ghost use Rattle.wy_prove_leaves.specs.wy_search_spec.Expansion as search;
 ghost use Rattle.wy_prove_leaves.specs.wy_search_spec.Tree.{Verdict};
 ghost use Rattle.wy_prove_rounds.specs.wy_search.StatedSeen.{IsSpot};
+ghost use Rattle.wy_prove_rounds.specs.wy_search_bounds.Known.{AreKnown};
 ghost use Rattle.wy_term.specs.Condition.{Condition, condition_of};
 ghost use Rattle.wy_term.specs.Nodes.{Plain, tree_at};
 ghost use Rattle.wy_term.specs.Term.{Term};
@@ -24,7 +25,8 @@ use std::collections::VecDeque;
 use wy_cert::Cert;
 use wy_prove_explaining::{Branch, add};
 use wy_prove_rounds::{
-    Draft, Spot, close_by_shut, copied_branch, first_draft, first_spot, write_split,
+    Draft, KnownForms, Spot, close_by_shut, copied_branch, first_draft, first_spot, no_forms,
+    write_split,
 };
 use wy_term::{Cond, NoMemory, Terms};
 
@@ -303,12 +305,20 @@ fn behind(
 }
 
 // One turn.
-fn turn(terms: &mut Terms, cond: &Cond, budget: u64, walk: Walk) -> Result<Turned, NoMemory>
+fn turn(
+    terms: &mut Terms,
+    known: &mut KnownForms,
+    cond: &Cond,
+    budget: u64,
+    walk: Walk,
+) -> Result<Turned, NoMemory>
+    requires known { AreKnown terms.old known.old }
     requires types { AreTypesBelow (length terms.old) cond.now }
     requires leaves { walk.leaves ≤ budget }
     requires walk { IsWalk terms.old walk }
     ensures value { (c : Condition) (v : Verdict) → c.types ≡ (condition_of terms.old cond.now).types → IsWalkLeft c budget v (tree_at terms.old) walk → IfOk result (IsTurnedTo c budget v (tree_at terms.new)) }
     ensures turned { IfOk result (IsTurned terms.new budget) }
+    ensures known { OnOk result (AreKnown terms.new known.new) }
     ensures stays { Stays terms.old terms.new }
 {
     let Walk {
@@ -320,7 +330,7 @@ fn turn(terms: &mut Terms, cond: &Cond, budget: u64, walk: Walk) -> Result<Turne
     if leaves == budget {
         return Ok(Turned::Stops);
     }
-    let next = what_follows(terms, spot)?;
+    let next = what_follows(terms, known, spot)?;
     behind(terms, cond, budget, leaves, draft, waiting, next)
 }
 
@@ -334,9 +344,10 @@ pub fn written_by(terms: &mut Terms, cond: &Cond, budget: u64) -> Result<Option<
     ensures names { IfOk result (λ o. IfSome o NamesItsTerms) }
     ensures stays { Stays terms.old terms.new }
 {
+    let mut known = no_forms(terms.allocator(), 0);
     let mut walk = first_walk(terms, cond)?;
     for _turn in 0..u64::MAX {
-        match turn(terms, cond, budget, walk)? {
+        match turn(terms, &mut known, cond, budget, walk)? {
             Turned::Ends(cert) => return Ok(Some(cert)),
             Turned::Stops => return Ok(None),
             Turned::GoesOn(next) => walk = next,

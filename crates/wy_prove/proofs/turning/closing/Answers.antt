@@ -4,6 +4,7 @@ use Rattle.wy_prove_explaining.specs.wy_check_nodes.Seen.{seen_branch}
 use Rattle.wy_prove_explaining.proofs.wy_check_nodes_proofs.SumsBranchLemmas.{branch_stays}
 use Rattle.wy_prove_rounds.specs.wy_cong.Seen.{terms_of}
 use Rattle.wy_prove_leaves.specs.wy_search_spec.Bounds.{ending, ending_by, replaced_forms}
+use Rattle.wy_prove_rounds.proofs.wy_search_bounds_proofs.KnownLemmas.{known_stays}
 use Rattle.wy_prove_rounds.proofs.wy_search_proofs.TurnLemmas.{clashes_so, ends_so}
 use Rattle.wy_prove.specs.Turns.{is_refutation}
 use Rattle.wy_prove.proofs.TurningLemmas.{refutation_is, no_refutation}
@@ -41,3 +42,9 @@ returns-clause-value c =
 
 pub refuting-requires-clause-branch : goal.refuting-requires-clause-branch
 refuting-requires-clause-branch c = branch_stays c.args.terms.now c.is_refuted.new.terms c.args.branch.now c.in_ok-is_refuted.ensures.stays c.requires.branch
+
+pub returns-then-branch-clause-known : goal.returns-then-branch-clause-known
+returns-then-branch-clause-known c = known_stays c.args.terms.now c.why_they_clash.new.terms c.args.known.now c.in_ok-actions.ensures c.requires.known
+
+pub returns-then-branch-2-clause-known : goal.returns-then-branch-2-clause-known
+returns-then-branch-2-clause-known c = known_stays c.is_refuted.new.terms c.refuting.new.terms c.is_refuted.new.known c.in_ok-actions.ensures c.in_ok-is_refuted.ensures.known

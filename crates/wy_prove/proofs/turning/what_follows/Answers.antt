@@ -3,6 +3,8 @@ use Rattle.std.specs.Prelude.{IfOk, IfSome}
 use Rattle.wy_term.specs.Nodes.{tree_at}
 use Rattle.wy_facts.proofs.StepLemmas.{terms_kept}
 use Rattle.wy_prove_rounds.proofs.wy_search_bounds_proofs.GatherLemmas.{present_stays}
+use Rattle.wy_prove_rounds.proofs.wy_search_bounds_proofs.KnownLemmas.{on_ok_anyway}
+use Rattle.wy_prove_rounds.specs.wy_search_bounds.Known.{AreKnown}
 use Rattle.wy_prove_explaining.specs.wy_check_nodes.Seen.{seen_branch}
 use Rattle.wy_prove_leaves.specs.wy_search_spec.Expansion.{Spot}
 use Rattle.wy_prove_rounds.specs.wy_search.StatedSeen.{seen_spot}
@@ -41,3 +43,6 @@ returns-in-None-clause-value c =
     let same = seen_stays old new c.args.spot c.in_ok-plan.ensures.stays c.requires.spot in
     let free : IsOpenNode (seen_spot (tree_at old) c.args.spot).node = record { shut = sym c.in_ok-is_shut.ensures ∙ un; clashes = h.0; refuted = h.1 } in
     subst (λ (p : Spot). IfOk c.on_open.result (IsJudged (tree_at new) p)) same (c.on_open.ensures.value (subst (λ (p : Spot). IsOpenNode p.node) (sym same) free))
+
+pub returns-in-None-clause-known : goal.returns-in-None-clause-known
+returns-in-None-clause-known c = on_ok_anyway (AreKnown c.closing.new.terms c.closing.new.known) c.on_open.result c.in_ok-plan.ensures.known

@@ -3,6 +3,7 @@ use Rattle.wy_facts.proofs.SharedLemmas.{types_stay}
 use Rattle.wy_prove_rounds.proofs.wy_search_facts_proofs.AddingLemmas.{types_up}
 use Rattle.wy_term.specs.Nodes.{tree_at}
 use Rattle.wy_facts.proofs.StepLemmas.{stays_on}
+use Rattle.wy_prove_rounds.proofs.wy_search_bounds_proofs.KnownLemmas.{if_known}
 use Rattle.wy_prove_rounds.specs.wy_search.StatedSeen.{seen_spot}
 use Rattle.wy_prove_rounds.specs.wy_prove_drafts.Draft.{seen_draft}
 use Rattle.wy_prove_rounds.proofs.wy_prove_drafts_proofs.DraftLemmas.{draft_stays, seen_draft_stays}
@@ -40,3 +41,6 @@ returns-clause-value c = λ k v same h.
 
 pub returns-clause-stays : goal.returns-clause-stays
 returns-clause-stays c = stays_on c.args.terms.now c.what_follows.new.terms c.behind.new.terms c.in_ok-next.ensures.stays c.behind.ensures.stays
+
+pub returns-clause-known : goal.returns-clause-known
+returns-clause-known c = if_known c.behind.result c.what_follows.new.terms c.behind.new.terms c.what_follows.new.known c.behind.ensures.stays c.in_ok-next.ensures.known

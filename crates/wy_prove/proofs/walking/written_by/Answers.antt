@@ -13,6 +13,7 @@ loop-turn-init c = record {
   leaves = omega (arith, c.in_ok-walk.ensures.leaves);
   walk = c.in_ok-walk.ensures.walk;
   stays = stays_same c.args.terms.now;
+  known = c.no_forms-known.ensures c.args.terms.now (omega arith);
 }
 
 pub turn-requires-clause-types : goal.turn-requires-clause-types
@@ -52,4 +53,5 @@ loop-turn-preserved c =
       leaves = over.1;
       walk = over.0;
       stays = stays_on old c.loop-turn.terms c.turn.new.terms c.loop-turn.invariant.stays c.in_ok-cert.ensures.stays;
+      known = c.in_ok-cert.ensures.known;
     }

@@ -3,6 +3,7 @@ use Rattle.wy_term.specs.Nodes.{tree_at}
 use Rattle.wy_term.specs.Condition.{condition_of}
 use Rattle.wy_facts.specs.Seen.{Stays}
 use Rattle.wy_prove_leaves.specs.wy_search_spec.Tree.{Verdict}
+use Rattle.wy_prove_rounds.specs.wy_search_bounds.Known.{AreKnown}
 use Rattle.wy_prove.specs.Tracks.{EndsWith}
 use Rattle.wy_prove.specs.Walks.{IsWalk, IsWalkLeft}
 use Rattle.wy_prove.proofs.walking.written_by.Given as goal
@@ -14,4 +15,5 @@ invariant-loop-turn l = record {
   leaves : l.walk.leaves ≤ l.budget;
   walk : IsWalk l.terms l.walk;
   stays : Stays l.fn.terms l.terms;
+  known : AreKnown l.terms l.known;
 }
