@@ -24,12 +24,7 @@ pub enum SearchEnd {
 }
 
 // The end of a search that finds, of so many leaves.
-fn found(
-    terms: &mut Terms,
-    cond: &Cond,
-    budget: u64,
-    leaves: u64,
-) -> Result<SearchEnd, NoMemory>
+fn found(terms: &mut Terms, cond: &Cond, budget: u64, leaves: u64) -> Result<SearchEnd, NoMemory>
     requires hyps { All (λ h. h < length terms.old) cond.now.hyps.items }
     requires goal { cond.now.goal < length terms.old }
     requires types { AreTypesBelow (length terms.old) cond.now }

@@ -11,13 +11,15 @@ use Rattle.wy_prove.proofs.searching.found.Goals as goal
 
 pub returns-in-Some-clause-end : goal.returns-in-Some-clause-end
 returns-in-Some-clause-end c =
-    let k = condition_of c.args.terms.now c.args.cond.now in
-    (c.requires.found, record {
-      valid = subst (λ (o : Option Cert). IfSome o (λ cert. IsValid k (steps_of cert))) c.in-Some.is c.in_ok-made.ensures.valid;
-      sorted = subst (λ (o : Option Cert). IfSome o (λ cert. AreSortedSteps (steps_of cert))) c.in-Some.is c.in_ok-made.ensures.sorted;
-      writable = subst (λ (o : Option Cert). IfSome o (λ cert. AreWritable (steps_of cert))) c.in-Some.is c.in_ok-made.ensures.writable;
-      names = subst (λ (o : Option Cert). IfSome o NamesItsTerms) c.in-Some.is c.in_ok-made.ensures.names;
-    })
+    let k = condition_of c.args.terms.now c.args.cond.now in (
+      c.requires.found,
+      record {
+        valid = subst (λ (o : Option Cert). IfSome o (λ cert. IsValid k (steps_of cert))) c.in-Some.is c.in_ok-made.ensures.valid;
+        sorted = subst (λ (o : Option Cert). IfSome o (λ cert. AreSortedSteps (steps_of cert))) c.in-Some.is c.in_ok-made.ensures.sorted;
+        writable = subst (λ (o : Option Cert). IfSome o (λ cert. AreWritable (steps_of cert))) c.in-Some.is c.in_ok-made.ensures.writable;
+        names = subst (λ (o : Option Cert). IfSome o NamesItsTerms) c.in-Some.is c.in_ok-made.ensures.names;
+      },
+    )
 
 pub unreachable-requires : goal.unreachable-requires
 unreachable-requires c =
