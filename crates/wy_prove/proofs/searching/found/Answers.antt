@@ -9,8 +9,8 @@ use Rattle.wy_prove_writable.specs.wy_check_laws.sound.Sortedness.{AreSortedStep
 use Rattle.wy_term.specs.Condition.{condition_of}
 use Rattle.wy_prove.proofs.searching.found.Goals as goal
 
-pub returns-in-Some-clause-end : goal.returns-in-Some-clause-end
-returns-in-Some-clause-end c =
+pub returns-clause-end : goal.returns-clause-end
+returns-clause-end c =
     let k = condition_of c.args.terms.now c.args.cond.now in (
       c.requires.found,
       record {

@@ -54,6 +54,6 @@ pub returns-in-Open-clause-end : goal.returns-in-Open-clause-end
 returns-in-Open-clause-end c =
     (subst (λ (v : Verdict). IsVerdict (condition_of c.args.terms.now c.args.cond.now) c.args.budget (seen_verdict v)) c.in-Open.is c.in_ok-verdict.ensures.verdict, subst NamesItsTerms c.in-Open.is c.in_ok-verdict.ensures.within)
 
-pub returns-in-Spent-clause-end : goal.returns-in-Spent-clause-end
-returns-in-Spent-clause-end c =
+pub returns-clause-end : goal.returns-clause-end
+returns-clause-end c =
     (subst (λ (v : Verdict). IsVerdict (condition_of c.args.terms.now c.args.cond.now) c.args.budget (seen_verdict v)) c.in-Spent.is c.in_ok-verdict.ensures.verdict, refl)

@@ -47,4 +47,4 @@ pub returns-then-branch-clause-known : goal.returns-then-branch-clause-known
 returns-then-branch-clause-known c = known_stays c.args.terms.now c.why_they_clash.new.terms c.args.known.now c.in_ok-actions.ensures c.requires.known
 
 pub returns-then-branch-2-clause-known : goal.returns-then-branch-2-clause-known
-returns-then-branch-2-clause-known c = known_stays c.is_refuted.new.terms c.refuting.new.terms c.is_refuted.new.known c.in_ok-actions.ensures c.in_ok-is_refuted.ensures.known
+returns-then-branch-2-clause-known c = known_stays c.is_refuted.new.terms c.refuting.new.terms c.is_refuted.new.known c.in_ok-actions-2.ensures c.in_ok-is_refuted.ensures.known
