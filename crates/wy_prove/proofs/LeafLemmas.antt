@@ -11,25 +11,24 @@ use Rattle.wy_prove_rounds.specs.wy_cong.Seen.{terms_of}
 use Rattle.wy_prove_leaves.specs.wy_search_spec.Classes.{clashes}
 use Rattle.wy_prove_leaves.specs.wy_search_spec.Standing.{present}
 use Rattle.wy_prove_leaves.specs.wy_search_spec.Expansion.{Spot}
-use Rattle.wy_prove_writable.specs.wy_check_laws.sound.Sortedness.{AreSortedTerms, IsSortedStep}
 use Rattle.wy_prove_leaves.proofs.wy_search_laws_proofs.closing_lemmas.AtLeastLemmas.{at_least_on}
-use Rattle.wy_prove_leaves.proofs.wy_search_laws_proofs.chains_lemmas.ClassLemmas.{present_sorted}
+use Rattle.wy_prove_rounds.proofs.wy_prove_drafts_proofs.PresentLemmas.{present_fit}
 use Rattle.wy_prove_leaves.proofs.wy_search_laws_proofs.certified_lemmas.LeafLemmas.{sorted_literals, folded_literals}
 use Rattle.wy_prove_leaves.specs.wy_search_laws.rounds.Leaves.{IsLeaf}
-use Rattle.wy_prove_rounds.specs.wy_prove_drafts.Progress.{Progress, Closes, Goes}
+use Rattle.wy_prove_rounds.specs.wy_prove_drafts.Progress.{AreFit, IsFitStep, Progress, Closes, Goes}
 use Rattle.wy_prove_rounds.proofs.wy_prove_drafts_proofs.ProgressLemmas.{closes_ends, ends_behind, goes_more, goes_nowhere, goes_on}
 use Rattle.wy_prove_leaves.specs.linked.Linked.{IsBase}
 use Rattle.wy_prove_leaves.specs.stated_sums.Refuted.{EndsIfRefuted}
 use Rattle.wy_prove_rounds.proofs.NodeLemmas.{sorted_node}
 use Rattle.wy_prove_rounds.specs.Rounds.{IsBeside}
-use Rattle.wy_prove.specs.Plans.{AreSortedAt, GoesOrEnds, IsEnded}
-use Rattle.wy_prove.proofs.PlanLemmas.{terms_sorted}
+use Rattle.wy_prove.specs.Plans.{AreFitAt, GoesOrEnds, IsEnded}
+use Rattle.wy_prove.proofs.PlanLemmas.{terms_fit}
 
 -- ---- one step
 
-pub closes_so : (types : List Entry) (s : Written) (a b : Progress) (yes : Bool) → IsSortedStep s → Closes types s a b yes → GoesOrEnds types a b yes
-closes_so types s a b true sorted h = closes_ends types s a b sorted h
-closes_so types s a b false sorted h = goes_nowhere types a b h.1
+pub closes_so : (types : List Entry) (s : Written) (a b : Progress) (yes : Bool) → IsFitStep s → Closes types s a b yes → GoesOrEnds types a b yes
+closes_so types s a b true fit h = closes_ends types s a b fit h
+closes_so types s a b false fit h = goes_nowhere types a b h.1
 
 -- behind other steps
 pub so_behind : (types : List Entry) (a b c : Progress) (yes : Bool) → Goes types a b → GoesOrEnds types b c yes → GoesOrEnds types a c yes
@@ -42,8 +41,8 @@ ended_behind types a b c false goes h = h
 
 -- ---- answers
 
-pub closes_ok : {E : Type 0} (r : Result Bool E) (types : List Entry) (s : Written) (a b : Progress) → IsSortedStep s → IfOk r (Closes types s a b) → IfOk r (GoesOrEnds types a b)
-closes_ok r types s a b sorted h = IfOk-weaker r (Closes types s a b) (GoesOrEnds types a b) (λ yes so. closes_so types s a b yes sorted so) h
+pub closes_ok : {E : Type 0} (r : Result Bool E) (types : List Entry) (s : Written) (a b : Progress) → IsFitStep s → IfOk r (Closes types s a b) → IfOk r (GoesOrEnds types a b)
+closes_ok r types s a b fit h = IfOk-weaker r (Closes types s a b) (GoesOrEnds types a b) (λ yes so. closes_so types s a b yes fit so) h
 
 pub behind_ok : {E : Type 0} (r : Result Bool E) (types : List Entry) (a b c : Progress) → Goes types a b → IfOk r (GoesOrEnds types b c) → IfOk r (GoesOrEnds types a c)
 behind_ok r types a b c goes h = IfOk-weaker r (GoesOrEnds types b c) (GoesOrEnds types a c) (λ yes so. so_behind types a b c yes goes so) h
@@ -58,6 +57,7 @@ base_on types base a b goes h = record {
   literals = h.literals;
   pending = h.pending;
   folded = h.folded;
+  throughout = h.throughout;
   at_least = at_least_on base a.node b.node h.at_least (goes_more types a b goes);
 }
 
@@ -76,8 +76,9 @@ beside_base types p d h = record {
   literals = sorted_literals p.node.literals h.sorted.0;
   pending = h.sorted.1;
   folded = folded_literals p.node.literals h.folded.0;
+  throughout = h.folded;
   at_least = h.near.at_least;
 }
 
-pub present_are_sorted : (types : List Entry) (nodes : List Plain) (p : Spot) (d : Progress) (here : Present) → IsBeside types p d → terms_of (tree_at nodes) here ≡ present p.node → AreSortedAt nodes here.numbers.items
-present_are_sorted types nodes p d here h same = terms_sorted nodes here.numbers.items (subst AreSortedTerms (sym same) (present_sorted p.node (sorted_node p.node h.sorted)))
+pub present_are_fit : (types : List Entry) (nodes : List Plain) (p : Spot) (d : Progress) (here : Present) → IsBeside types p d → terms_of (tree_at nodes) here ≡ present p.node → AreFitAt nodes here.numbers.items
+present_are_fit types nodes p d here h same = terms_fit nodes here.numbers.items (subst AreFit (sym same) (present_fit p.node (sorted_node p.node h.sorted) h.folded))

@@ -1,14 +1,13 @@
--- Lists of numbers of terms of sorted parts.
+-- Lists of numbers of fit terms.
 use Rattle.std.proofs.Common.{◌≡◌, ◌+◌, ◌<◌, ℕ, zero, suc, List, [], ◌∷◌, All, Bool, true, false, ◌||◌, length, get_or, refl, sym, subst, arith}
 use Rattle.std.specs.Prelude.{nat_eq}
 use Rattle.std.specs.List.{list_any}
 use Rattle.std.proofs.lemmas.Bool.{eqb-true}
 use borrow.Author.Count.{below_more}
 use Rattle.wy_term.specs.Nodes.{Plain}
-use Rattle.wy_term_subst.specs.sorted.Sorted.{IsSorted}
+use Rattle.wy_prove_rounds.specs.wy_prove_drafts.Progress.{AreFit, IsFit}
 use Rattle.wy_facts.specs.Seen.{AreBelow, Stays, terms_at}
-use Rattle.wy_prove_writable.specs.wy_check_laws.sound.Sortedness.{AreSortedTerms}
-use Rattle.wy_prove.specs.Plans.{AreAmong, AreSortedAt}
+use Rattle.wy_prove.specs.Plans.{AreAmong, AreFitAt}
 
 -- ---- numbers among others
 
@@ -36,16 +35,16 @@ pub all_more : (P : ℕ → Type 0) (ks : List ℕ) (k : ℕ) → k < length ks 
 all_more P ks k within here so_far i d lt =
     below_more (λ j. (e : ℕ) → P (get_or ks j e)) k (λ j below e. so_far j e below) (λ e. subst P (get_same ks k 0 e within) here) i lt d
 
--- ---- terms of sorted parts
+-- ---- fit terms
 
-pub sorted_kept : (old new : List Plain) (ks : List ℕ) → Stays old new → AreBelow (length old) ks → AreSortedAt old ks → AreSortedAt new ks
-sorted_kept old new ks stays below sorted i d lt = subst IsSorted (sym (stays.trees (get_or ks i d) (below i d lt))) (sorted i d lt)
+pub fit_kept : (old new : List Plain) (ks : List ℕ) → Stays old new → AreBelow (length old) ks → AreFitAt old ks → AreFitAt new ks
+fit_kept old new ks stays below fit i d lt = subst IsFit (sym (stays.trees (get_or ks i d) (below i d lt))) (fit i d lt)
 
-pub sorted_terms : (nodes : List Plain) (ks : List ℕ) → AreSortedAt nodes ks → AreSortedTerms (terms_at nodes ks)
-sorted_terms nodes [] h = tt
-sorted_terms nodes (k ∷ ks) h = (h 0 k (omega arith), sorted_terms nodes ks (λ i d lt. h (suc i) d (omega (arith, lt))))
+pub fit_terms : (nodes : List Plain) (ks : List ℕ) → AreFitAt nodes ks → AreFit (terms_at nodes ks)
+fit_terms nodes [] h = tt
+fit_terms nodes (k ∷ ks) h = (h 0 k (omega arith), fit_terms nodes ks (λ i d lt. h (suc i) d (omega (arith, lt))))
 
-pub terms_sorted : (nodes : List Plain) (ks : List ℕ) → AreSortedTerms (terms_at nodes ks) → AreSortedAt nodes ks
-terms_sorted nodes [] h i d lt = absurd (omega (arith, lt))
-terms_sorted nodes (k ∷ ks) h zero d lt = h.0
-terms_sorted nodes (k ∷ ks) h (suc i) d lt = terms_sorted nodes ks h.1 i d (omega (arith, lt))
+pub terms_fit : (nodes : List Plain) (ks : List ℕ) → AreFit (terms_at nodes ks) → AreFitAt nodes ks
+terms_fit nodes [] h i d lt = absurd (omega (arith, lt))
+terms_fit nodes (k ∷ ks) h zero d lt = h.0
+terms_fit nodes (k ∷ ks) h (suc i) d lt = terms_fit nodes ks h.1 i d (omega (arith, lt))

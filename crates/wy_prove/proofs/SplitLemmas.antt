@@ -10,7 +10,7 @@ use Rattle.wy_prove_leaves.specs.wy_search_spec.Splitting.{next_atom}
 use Rattle.wy_prove_leaves.specs.wy_search_spec.Expansion.{Spot, with_node}
 use Rattle.wy_prove_leaves.specs.wy_search_spec.Tree.{Verdict, next, splits, first_spot}
 use Rattle.wy_prove_writable.proofs.wy_check_laws_proofs.sound_lemmas.NodeLemmas.{IsSortedNode, added_sorted, denied_sorted, first_sorted}
-use Rattle.wy_prove_leaves.proofs.wy_search_laws_proofs.closing_lemmas.Closing.{IsFoldedNode, sorted_both}
+use Rattle.wy_prove_leaves.proofs.wy_search_laws_proofs.closing_lemmas.Closing.{IsFoldedNode}
 use Rattle.wy_prove_leaves.proofs.wy_search_laws_proofs.closing_lemmas.FoldedLemmas.{added_folded, denied_folded, first_folded}
 use Rattle.wy_prove_leaves.proofs.wy_search_laws_proofs.closing_lemmas.NameLemmas.{near_self, near_added, near_denied}
 use Rattle.wy_prove_leaves.specs.wy_search_laws.rounds.Leaves.{IsSortedThroughout, IsFoldedThroughout}
@@ -18,6 +18,7 @@ use Rattle.wy_prove_leaves.proofs.wy_search_laws_proofs.ends_lemmas.AtomLemmas.{
 use Rattle.wy_prove_leaves.proofs.wy_search_laws_proofs.rounds_lemmas.SearchLemmas.{IsFit, sorted_atoms, folded_atoms, folded_formulas, formulas_folded, next_fit}
 use Rattle.wy_prove_rounds.specs.wy_prove_drafts.Progress.{Progress}
 use Rattle.wy_prove_rounds.proofs.NodeLemmas.{folded_node, sorted_node}
+use Rattle.wy_prove_rounds.proofs.wy_prove_drafts_proofs.ProgressLemmas.{fit_both}
 use Rattle.wy_prove_rounds.specs.Rounds.{IsBeside}
 use Rattle.wy_prove.specs.Tracks.{Pair, spots_of, nodes_of, EndsWith, IsLeft}
 use Rattle.wy_prove.proofs.TrackLemmas.{at_node, split_by, turned_to}
@@ -63,7 +64,7 @@ split_left c budget v n p node steps ws a apart next_is is atom h =
     record {
       beside = (beside_added c.types p (at_node node) a fit h.beside.0, (beside_denied c.types p (at_node node) a fit h.beside.0, h.beside.1));
       comes = turned_to c budget v n p (spots_of ws) (splits (with_node p (added p.node a)) (with_node p (denied_one p.node a))) is apart h.comes;
-      sorted = sorted_both steps (split a ∷ []) h.sorted (fit.0, tt);
+      fit = fit_both steps (split a ∷ []) h.fit ((record { sorted = fit.0.0; folded = fit.1 }, fit.0.1), tt);
       closes = λ more closed_so.
           let so = h.closes (split a ∷ more) (split_by c.types node (added node a) (denied_one node a) (nodes_of ws) (split a) more (only (is_atom a) (Some (added node a ∷ denied_one node a ∷ [])) atom) closed_so) in
           subst (IsValid c) (sym (append_assoc steps (split a ∷ []) more)) so;
@@ -89,4 +90,4 @@ first_left c budget v h =
       draft = sorted_throughout (first_node c) sorted;
       near = near_self (first_node c);
     } in
-    record { beside = (beside, tt); comes = h.verdict; sorted = tt; closes = λ more so. so 1 }
+    record { beside = (beside, tt); comes = h.verdict; fit = tt; closes = λ more so. so 1 }

@@ -1,7 +1,7 @@
 -- What is left of a search, node by node.
 use Rattle.std.proofs.Common.{◌≡◌, ◌∙◌, ◌+◌, ℕ, zero, suc, List, [], ◌∷◌, ◌++◌, Bool, true, false, cond, eqb, ◌||◌, Option, Some, inl, inr, refl, sym, ap, subst, arith, append_assoc, append-nil}
 use Rattle.std.proofs.lemmas.Bool.{ne_eqb, eq-eqb}
-use Rattle.wy_prove_leaves.proofs.wy_search_laws_proofs.closing_lemmas.Closing.{sorted_both}
+use Rattle.wy_prove_rounds.proofs.wy_prove_drafts_proofs.ProgressLemmas.{fit_both, leads_fit}
 use Rattle.wy_lemmas.proofs.Choices.{or_true}
 use Rattle.wy_lemmas.proofs.Options.{some_same}
 use Rattle.wy_term.specs.Condition.{Entry, Condition}
@@ -14,8 +14,7 @@ use Rattle.wy_prove_leaves.specs.wy_search_spec.Bounds.{Ending, refuted, consist
 use Rattle.wy_prove_leaves.specs.wy_search_spec.Splitting.{next_atom}
 use Rattle.wy_prove_leaves.specs.wy_search_spec.Expansion.{Spot}
 use Rattle.wy_prove_leaves.specs.wy_search_spec.Tree.{Next, Why, closed, stays_open, goes_on, on_atom, by_ending, next, Verdict, found, spent, follows, searched}
-use Rattle.wy_prove_writable.specs.wy_check_laws.sound.Sortedness.{AreSortedSteps}
-use Rattle.wy_prove_rounds.specs.wy_prove_drafts.Progress.{Progress, Leads, Goes, Ends}
+use Rattle.wy_prove_rounds.specs.wy_prove_drafts.Progress.{AreFitSteps, Progress, Leads, Goes, Ends}
 use Rattle.wy_prove_leaves.specs.wy_search_laws.closing.AtLeast.{IsNear}
 use Rattle.wy_prove_leaves.specs.wy_search_laws.rounds.Leaves.{IsLeaf, IsSortedThroughout}
 use Rattle.wy_prove_rounds.specs.Rounds.{IsBeside}
@@ -41,12 +40,6 @@ split_by types node l r ns s rest e h = λ k.
 leads_close : (types : List Entry) (node last : Node) (ns : List Node) (more rest : List Written) → Leads types node more last → AreClosedBy types (last ∷ ns) rest → AreClosedBy types (node ∷ ns) (more ++ rest)
 leads_close types node last ns [] rest h g = subst (λ (n : Node). AreClosedBy types (n ∷ ns) rest) (sym h) g
 leads_close types node last ns (s ∷ more) rest h g = led_by types node h.0 ns s (more ++ rest) h.1 (leads_close types h.0 last ns more rest h.3 g)
-
--- ---- steps of terms of sorted parts
-
-sorted_leads : (types : List Entry) (node last : Node) (more : List Written) → Leads types node more last → AreSortedSteps more
-sorted_leads types node last [] h = tt
-sorted_leads types node last (s ∷ more) h = (h.2, sorted_leads types h.0 last more h.3)
 
 -- ---- what becomes of a node of the search
 
@@ -149,8 +142,8 @@ leaf_left c budget v n m p d e ws apart count is ends h =
     record {
       beside = h.beside.1;
       comes = (rest.0, subst (λ (k : ℕ). searched c.types budget rest.0 k (spots_of ws) ≡ Some v) one_more rest.1);
-      sorted = subst AreSortedSteps (sym whole)
-          (sorted_both d.steps (ends.more ++ ends.last ∷ []) h.sorted (sorted_both ends.more (ends.last ∷ []) (sorted_leads c.types d.node ends.middle ends.more ends.leads) (ends.sorted, tt)));
+      fit = subst AreFitSteps (sym whole)
+          (fit_both d.steps (ends.more ++ ends.last ∷ []) h.fit (fit_both ends.more (ends.last ∷ []) (leads_fit c.types d.node ends.middle ends.more ends.leads) (ends.fit, tt)));
       closes = λ more closed_so.
           let so = h.closes (ends.more ++ ends.last ∷ more) (leads_close c.types d.node ends.middle (nodes_of ws) ends.more (ends.last ∷ more) ends.leads (closed_by c.types ends.middle (nodes_of ws) ends.last more ends.closes closed_so)) in
           subst (IsValid c) (sym (three d.steps ends.more more ends.last e.steps whole)) so;
@@ -165,7 +158,7 @@ pub round_left : (c : Condition) (budget : ℕ) (v : Verdict) (n : ℕ) (p q : S
 round_left c budget v n p q d e ws apart is goes beside h = record {
   beside = (same_beside c.types q e (at_node e.node) refl beside, h.beside.1);
   comes = turned_to c budget v n p (spots_of ws) (goes_on q) is apart h.comes;
-  sorted = subst AreSortedSteps (sym goes.written) (sorted_both d.steps goes.more h.sorted (sorted_leads c.types d.node e.node goes.more goes.leads));
+  fit = subst AreFitSteps (sym goes.written) (fit_both d.steps goes.more h.fit (leads_fit c.types d.node e.node goes.more goes.leads));
   closes = λ more closed_so.
       let so = h.closes (goes.more ++ more) (leads_close c.types d.node e.node (nodes_of ws) goes.more more goes.leads closed_so) in
       subst (IsValid c) (sym (ap (λ (xs : List Written). xs ++ more) goes.written ∙ append_assoc d.steps goes.more more)) so;
@@ -175,8 +168,8 @@ round_left c budget v n p q d e ws apart is goes beside h = record {
 pub none_found : (c : Condition) (budget : ℕ) (v : Verdict) (n : ℕ) (steps : List Written) → IsLeft c budget v n steps [] → IsFound v
 none_found c budget v n steps h = ends_found c budget v n h.comes
 
-pub none_left : (c : Condition) (budget : ℕ) (v : Verdict) (n : ℕ) (steps : List Written) → IsLeft c budget v n steps [] → IsValid c steps × AreSortedSteps steps
-none_left c budget v n steps h = (subst (IsValid c) (append-nil steps) (h.closes [] (λ k. refl)), h.sorted)
+pub none_left : (c : Condition) (budget : ℕ) (v : Verdict) (n : ℕ) (steps : List Written) → IsLeft c budget v n steps [] → IsValid c steps × AreFitSteps steps
+none_left c budget v n steps h = (subst (IsValid c) (append-nil steps) (h.closes [] (λ k. refl)), h.fit)
 
 pub never_spent : (c : Condition) (budget : ℕ) (v : Verdict) (n : ℕ) (p : Spot) (node : Node) (steps : List Written) (ws : List Pair) → n ≡ budget → IsLeft c budget v n steps ((p, node) ∷ ws) → IsFound v → ⊥
 never_spent c budget v n p node steps ws is h = unless_found c budget v n (p ∷ spots_of ws) (λ all g. spent_never c budget all n p (spots_of ws) is g) h.comes

@@ -1,13 +1,11 @@
 -- Where a condition that the search finds is answered by a certificate.
-use Rattle.std.specs.Prelude.{◌≡◌, ℕ, Option, Some, None}
+use Rattle.std.specs.Prelude.{ℕ, Option, Some, None}
 use Rattle.wy_term.specs.Condition.{Condition}
 use Rattle.wy_term.specs.Unfolding.{AreClosed}
 use Rattle.wy_cert.specs.declared.step.Cert.{Cert}
-use Rattle.wy_cert.specs.Steps.{steps_of}
 use Rattle.wy_prove_leaves.specs.wy_search_spec.Tree.{found, IsVerdict}
 use Rattle.wy_prove_writable.specs.wy_check_laws.sound.Sortedness.{IsSortedCondition}
 use Rattle.wy_prove_leaves.specs.wy_search_laws.rounds.Leaves.{IsFoldedCondition}
-use Rattle.wy_prove_writable.specs.Writable.{AreWritable}
 
 -- the condition's formulas are sorted and folded, and its named types closed, as those of programs are
 pub record IsFormedThroughout (c : Condition) : Type 0 where
@@ -23,7 +21,3 @@ IsFoundWithin c budget = (leaves : ℕ) × IsVerdict c budget (found leaves)
 abbrev pub AnswersWhatIsFound : Condition → ℕ → Option Cert → Type 0
 AnswersWhatIsFound c budget None = IsFoundWithin c budget → ⊥
 AnswersWhatIsFound c budget (Some cert) = IsFoundWithin c budget
-
--- it is this certificate, which can be written
-abbrev pub IsWritten : Cert → Cert → Type 0
-IsWritten cert same = (same ≡ cert) × AreWritable (steps_of cert)

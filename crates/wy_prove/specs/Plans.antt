@@ -3,12 +3,11 @@ use Rattle.std.specs.Prelude.{ℕ, List, nat_eq, ◌≡◌, Bool, true, false, A
 use Rattle.std.specs.List.{list_any}
 use Rattle.wy_term.specs.Condition.{Entry}
 use Rattle.wy_term.specs.Nodes.{Plain, tree_at}
-use Rattle.wy_term_subst.specs.sorted.Sorted.{IsSorted}
-use Rattle.wy_prove_rounds.specs.wy_prove_drafts.Progress.{Progress, Goes, Ends}
+use Rattle.wy_prove_rounds.specs.wy_prove_drafts.Progress.{IsFit, Progress, Goes, Ends}
 
--- these numbers are those of terms of sorted parts
-abbrev pub AreSortedAt : List Plain → List ℕ → Type 0
-AreSortedAt nodes ks = All (λ k. IsSorted (tree_at nodes k)) ks
+-- these numbers are those of fit terms
+abbrev pub AreFitAt : List Plain → List ℕ → Type 0
+AreFitAt nodes ks = All (λ k. IsFit (tree_at nodes k)) ks
 
 -- each of the second is one of the first
 abbrev pub AreAmong : List ℕ → List ℕ → Type 0

@@ -6,7 +6,7 @@ use Rattle.wy_cert.specs.Steps.{Written}
 use Rattle.wy_prove_rounds.specs.wy_check_spec.valid.Validity.{after, first_bad_by, IsValid}
 use Rattle.wy_prove_leaves.specs.wy_search_spec.Expansion.{Spot}
 use Rattle.wy_prove_leaves.specs.wy_search_spec.Tree.{Verdict, found, searched, IsVerdict}
-use Rattle.wy_prove_writable.specs.wy_check_laws.sound.Sortedness.{AreSortedSteps}
+use Rattle.wy_prove_rounds.specs.wy_prove_drafts.Progress.{AreFitSteps}
 use Rattle.wy_prove_rounds.specs.Rounds.{IsBeside}
 use Rattle.wy_prove.specs.Answers.{IsFormedThroughout}
 
@@ -50,5 +50,5 @@ ComesTo c budget v n ps = (turns : ℕ) × (searched c.types budget turns n ps �
 pub record IsLeft (c : Condition) (budget : ℕ) (v : Verdict) (n : ℕ) (steps : List Written) (ws : List Pair) : Type 0 where
   pub beside : AreBeside c.types ws
   pub comes : ComesTo c budget v n (spots_of ws)
-  pub sorted : AreSortedSteps steps
+  pub fit : AreFitSteps steps
   pub closes : (rest : List Written) → AreClosedBy c.types (nodes_of ws) rest → IsValid c (steps ++ rest)

@@ -10,8 +10,7 @@ use Rattle.wy_prove_rounds.specs.wy_check_spec.valid.Validity.{IsValid}
 use Rattle.wy_prove_leaves.specs.wy_search_spec.Expansion as search
 use Rattle.wy_prove_leaves.specs.wy_search_spec.Tree.{Verdict}
 use Rattle.wy_prove_rounds.specs.wy_search.StatedSeen.{seen_spot, IsSpot}
-use Rattle.wy_prove_writable.specs.wy_check_laws.sound.Sortedness.{AreSortedSteps}
-use Rattle.wy_prove_rounds.specs.wy_prove_drafts.Progress.{Progress}
+use Rattle.wy_prove_rounds.specs.wy_prove_drafts.Progress.{AreFitSteps, Progress}
 use Rattle.wy_prove_rounds.specs.wy_prove_drafts.Draft.{IsDraft, seen_draft}
 use Rattle.wy_prove.specs.Tracks.{Pair, IsFound, IsLeft}
 use Rattle.wy_prove.specs.declared.walking.Waiting.{Waiting}
@@ -49,11 +48,11 @@ StandsAt c budget v n p d ws = IsLeft c budget v n d.steps ((p, d.node) ∷ ws)
 abbrev pub IsWalkLeft : Condition → ℕ → Verdict → (ℕ → Term) → Walk → Type 0
 IsWalkLeft c budget v at w = StandsAt c budget v w.leaves (seen_spot at w.spot) (seen_draft at w.draft) (map (seen_waiting at) w.waiting.items)
 
--- the search finds, and the certificate is valid and of terms of sorted parts
+-- the search finds, and the certificate is valid and of fit terms
 pub record IsWhole (c : Condition) (v : Verdict) (cert : Cert) : Type 0 where
   pub found : IsFound v
   pub valid : IsValid c (steps_of cert)
-  pub sorted : AreSortedSteps (steps_of cert)
+  pub fit : AreFitSteps (steps_of cert)
 
 -- the walk stops without a certificate only where the search doesn't find
 abbrev pub IsTurnedTo : Condition → ℕ → Verdict → (ℕ → Term) → Turned → Type 0
@@ -61,7 +60,7 @@ IsTurnedTo c budget v at (turned.Ends cert) = IsWhole c v cert
 IsTurnedTo c budget v at turned.Stops = IsFound v → ⊥
 IsTurnedTo c budget v at (turned.GoesOn w) = IsWalkLeft c budget v at w
 
--- there is a certificate exactly where the search finds, valid and of terms of sorted parts
+-- there is a certificate exactly where the search finds, valid and of fit terms
 abbrev pub IsFinished : Condition → Verdict → Option Cert → Type 0
 IsFinished c v None = IsFound v → ⊥
 IsFinished c v (Some cert) = IsWhole c v cert

@@ -1,7 +1,7 @@
 //! Certificates that can be written.
 ghost use Rattle.std.specs.Prelude.{◌≡◌, ◌<◌, ℕ, All, length, IfOk, IfSome};
 ghost use Rattle.wy_cert.specs.Steps.{steps_of, NamesItsTerms};
-ghost use Rattle.wy_prove.specs.Answers.{AnswersWhatIsFound, IsFormedThroughout, IsWritten};
+ghost use Rattle.wy_prove.specs.Answers.{AnswersWhatIsFound, IsFormedThroughout};
 ghost use Rattle.wy_facts.specs.Membership.{AreTypesBelow};
 ghost use Rattle.wy_facts.specs.Seen.{Stays};
 ghost use Rattle.wy_prove_writable.specs.wy_check_laws.sound.Sortedness.{AreSortedSteps};
@@ -12,19 +12,8 @@ ghost use Rattle.wy_prove_writable.specs.Writable.{AreWritable};
 
 use crate::walking::written_by;
 use wy_cert::Cert;
-use wy_prove_writable::is_certificate_writable;
+use wy_prove_writable::written;
 use wy_term::{Cond, NoMemory, Terms};
-
-// The certificate, which can be written. Want of memory is also the answer where a file has no room for a name or a number of it.
-fn written(cert: Cert) -> Result<Cert, NoMemory>
-    requires { NamesItsTerms cert }
-    ensures { IfOk result (IsWritten cert) }
-{
-    if !is_certificate_writable(&cert)? {
-        return Err(NoMemory);
-    }
-    Ok(cert)
-}
 
 // The same as below. It makes terms.
 fn found(terms: &mut Terms, cond: &Cond, budget: u64) -> Result<Option<Cert>, NoMemory>

@@ -1,6 +1,6 @@
 //! The steps of a plan that is to close a node, written to a draft.
 ghost use Rattle.std.specs.Prelude.{◌<◌, List, IfOk, IfSome, IsTrue, OnOk, length};
-ghost use Rattle.wy_prove.specs.Plans.{AreAmong, AreSortedAt, GoesOrEnds};
+ghost use Rattle.wy_prove.specs.Plans.{AreAmong, AreFitAt, GoesOrEnds};
 ghost use Rattle.wy_prove_rounds.specs.wy_prove_drafts.Draft.{IsDraft, seen_draft};
 ghost use Rattle.wy_prove_rounds.specs.wy_prove_drafts.Progress.{Goes};
 ghost use Rattle.wy_facts.specs.Seen.{AreBelow, Stays};
@@ -34,7 +34,7 @@ fn are_among(known: &[u32], all: &[u32]) -> bool
 fn chain(terms: &mut Terms, draft: &mut Draft, known: &[u32], all: &[u32]) -> Result<(), NoMemory>
     requires draft { IsDraft terms.old draft.old }
     requires known { AreBelow (length terms.old) known.now }
-    ensures value { (types : List Entry) → AreSortedAt terms.old known.now → OnOk result (Goes types (seen_draft (tree_at terms.old) draft.old) (seen_draft (tree_at terms.new) draft.new)) }
+    ensures value { (types : List Entry) → AreFitAt terms.old known.now → OnOk result (Goes types (seen_draft (tree_at terms.old) draft.old) (seen_draft (tree_at terms.new) draft.new)) }
     ensures draft { OnOk result (IsDraft terms.new draft.new) }
     ensures stays { Stays terms.old terms.new }
 {
@@ -219,7 +219,7 @@ fn add_step(
 ) -> Result<(), NoMemory>
     requires draft { IsDraft terms.old draft.old }
     requires known { AreBelow (length terms.old) known.now }
-    ensures value { (types : List Entry) → AreSortedAt terms.old known.now → OnOk result (Goes types (seen_draft (tree_at terms.old) draft.old) (seen_draft (tree_at terms.new) draft.new)) }
+    ensures value { (types : List Entry) → AreFitAt terms.old known.now → OnOk result (Goes types (seen_draft (tree_at terms.old) draft.old) (seen_draft (tree_at terms.new) draft.new)) }
     ensures draft { OnOk result (IsDraft terms.new draft.new) }
     ensures stays { Stays terms.old terms.new }
 {
@@ -241,7 +241,7 @@ fn follow_one(
 ) -> Result<bool, NoMemory>
     requires draft { IsDraft terms.old draft.old }
     requires known { AreBelow (length terms.old) known.now }
-    ensures value { (types : List Entry) → AreSortedAt terms.old known.now → IfOk result (GoesOrEnds types (seen_draft (tree_at terms.old) draft.old) (seen_draft (tree_at terms.new) draft.new)) }
+    ensures value { (types : List Entry) → AreFitAt terms.old known.now → IfOk result (GoesOrEnds types (seen_draft (tree_at terms.old) draft.old) (seen_draft (tree_at terms.new) draft.new)) }
     ensures draft { OnOk result (IsDraft terms.new draft.new) }
     ensures stays { Stays terms.old terms.new }
 {
@@ -266,7 +266,7 @@ pub fn follow(
 ) -> Result<bool, NoMemory>
     requires draft { IsDraft terms.old draft.old }
     requires known { AreBelow (length terms.old) known.now }
-    ensures value { (types : List Entry) → AreSortedAt terms.old known.now → IfOk result (GoesOrEnds types (seen_draft (tree_at terms.old) draft.old) (seen_draft (tree_at terms.new) draft.new)) }
+    ensures value { (types : List Entry) → AreFitAt terms.old known.now → IfOk result (GoesOrEnds types (seen_draft (tree_at terms.old) draft.old) (seen_draft (tree_at terms.new) draft.new)) }
     ensures draft { OnOk result (IsDraft terms.new draft.new) }
     ensures stays { Stays terms.old terms.new }
 {

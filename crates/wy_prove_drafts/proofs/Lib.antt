@@ -8,6 +8,8 @@ pub mod ClosingLemmas
 pub mod StatingLemmas
 -- the numbers of literals
 pub mod NumberLemmas
+-- terms present
+pub mod PresentLemmas
 -- passed on to the crates above
 pub use Rattle.wy_search_laws.proofs.wy_check_laws_proofs as wy_check_laws_proofs
 pub use Rattle.wy_check_nodes.proofs as wy_check_nodes_proofs

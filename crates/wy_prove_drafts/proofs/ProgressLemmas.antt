@@ -14,12 +14,42 @@ use Rattle.wy_search_laws.specs.wy_check_spec.valid.Ranges.{instance_stated, wit
 use Rattle.wy_search_laws.specs.wy_check_spec.valid.Membership.{fact_among}
 use Rattle.wy_search_laws.specs.wy_check_spec.valid.Products.{product_stated}
 use Rattle.wy_search_laws.specs.wy_check_spec.valid.Validity.{closed, left_with, left_with_one, chain_stated, is_clash, after}
-use Rattle.wy_search_laws.specs.wy_check_laws.sound.Sortedness.{AreSortedEntries, IsSortedStep}
+use Rattle.wy_search_laws.specs.wy_check_laws.sound.Sortedness.{AreSortedEntries, AreSortedSteps, AreSortedTerms, IsSortedStep}
 use Rattle.wy_search_laws.proofs.wy_check_laws_proofs.sound_lemmas.NodeLemmas.{IsSortedNode}
 use Rattle.wy_search_laws.proofs.wy_check_laws_proofs.sound_lemmas.StepLemmas.{step_leads}
 use Rattle.wy_search_laws.specs.closing.AtLeast.{IsAtLeast}
 use Rattle.wy_search_laws.proofs.closing_lemmas.AtLeastLemmas.{at_least_self, at_least_on, more_formulas}
-use Rattle.wy_prove_drafts.specs.Progress.{Progress, Leads, Goes, Ends, Writes, Closes}
+use Rattle.wy_prove_drafts.specs.Progress.{AreFit, AreFitSteps, IsFitStep, Progress, Leads, Goes, Ends, Writes, Closes}
+
+-- ---- terms of steps
+
+pub terms_sorted : (ts : List Term) → AreFit ts → AreSortedTerms ts
+terms_sorted [] h = tt
+terms_sorted (t ∷ ts) h = (h.0.sorted, terms_sorted ts h.1)
+
+pub step_sorted : (s : Written) → IsFitStep s → IsSortedStep s
+step_sorted (split f) h = (h.0.sorted, h.1)
+step_sorted shut h = tt
+step_sorted (chain ts) h = terms_sorted ts h
+step_sorted (clash i other) h = tt
+step_sorted (sum_of pairs) h = tt
+step_sorted (cut d pairs) h = tt
+step_sorted (inst i t) h = h.sorted
+step_sorted (wit i) h = tt
+step_sorted (fact n ts) h = terms_sorted ts h
+step_sorted (prod i j p) h = h.sorted
+
+pub steps_sorted : (steps : List Written) → AreFitSteps steps → AreSortedSteps steps
+steps_sorted [] h = tt
+steps_sorted (s ∷ steps) h = (step_sorted s h.0, steps_sorted steps h.1)
+
+pub fit_both : (xs ys : List Written) → AreFitSteps xs → AreFitSteps ys → AreFitSteps (xs ++ ys)
+fit_both [] ys h g = g
+fit_both (x ∷ xs) ys h g = (h.0, fit_both xs ys h.1 g)
+
+pub leads_fit : (types : List Entry) (a b : Node) (steps : List Written) → Leads types a steps b → AreFitSteps steps
+leads_fit types a b [] h = tt
+leads_fit types a b (s ∷ steps) h = (h.2, leads_fit types h.0 b steps h.3)
 
 -- ---- behind one another
 
@@ -49,32 +79,32 @@ ends_behind types a b c h g = record {
   written = behind a.steps b.steps c.steps h.more (g.more ++ g.last ∷ []) h.written g.written ∙ ap (λ (zs : List Written). a.steps ++ zs) (sym (append_assoc h.more g.more (g.last ∷ [])));
   leads = leads_on types a.node b.node g.middle h.more g.more h.leads g.leads;
   closes = g.closes;
-  sorted = g.sorted;
+  fit = g.fit;
 }
 
 -- ---- one step
 
-pub closes_ends : (types : List Entry) (s : Written) (a b : Progress) → IsSortedStep s → Closes types s a b true → Ends types a b
-closes_ends types s a b sorted h = record {
+pub closes_ends : (types : List Entry) (s : Written) (a b : Progress) → IsFitStep s → Closes types s a b true → Ends types a b
+closes_ends types s a b fit h = record {
   more = [];
   last = s;
   middle = a.node;
   written = ap (λ (p : Progress). p.steps) h.1;
   leads = refl;
   closes = h.0;
-  sorted = sorted;
+  fit = fit;
 }
 
 -- a valid step that was written
-pub goes_by : (types : List Entry) (s : Written) (a b : Progress) → after types a.node s ≡ Some (b.node ∷ []) → IsSortedStep s → b.steps ≡ a.steps ++ s ∷ [] → Goes types a b
-goes_by types s a b valid sorted written = record { more = s ∷ []; written = written; leads = (b.node, valid, sorted, refl) }
+pub goes_by : (types : List Entry) (s : Written) (a b : Progress) → after types a.node s ≡ Some (b.node ∷ []) → IsFitStep s → b.steps ≡ a.steps ++ s ∷ [] → Goes types a b
+goes_by types s a b valid fit written = record { more = s ∷ []; written = written; leads = (b.node, valid, fit, refl) }
 
 pub goes_nowhere : (types : List Entry) (a b : Progress) → b ≡ a → Goes types a b
 goes_nowhere types a b same = subst (λ (p : Progress). Goes types a p) (sym same) (goes_self types a)
 
-pub writes_goes : (types : List Entry) (s : Written) (a b : Progress) (valid : Bool) → IsSortedStep s → Writes types s a b valid → Goes types a b
-writes_goes types s a b true sorted h = h.1 sorted
-writes_goes types s a b false sorted h = goes_nowhere types a b h.1
+pub writes_goes : (types : List Entry) (s : Written) (a b : Progress) (valid : Bool) → IsFitStep s → Writes types s a b valid → Goes types a b
+writes_goes types s a b true fit h = h.1 fit
+writes_goes types s a b false fit h = goes_nowhere types a b h.1
 
 -- ---- what a step keeps of the node
 
@@ -131,7 +161,7 @@ goes_more types a b h = leads_more types a.node b.node h.more h.leads
 pub leads_sorted : (types : List Entry) → AreClosed types → AreSortedEntries types → (a b : Node) (steps : List Written) → IsSortedNode a → Leads types a steps b → IsSortedNode b
 leads_sorted types are_closed entries a b [] sorted h = subst IsSortedNode h sorted
 leads_sorted types are_closed entries a b (s ∷ steps) sorted h =
-    let leads = step_leads types a s (h.0 ∷ []) are_closed entries sorted h.2 h.1 in
+    let leads = step_leads types a s (h.0 ∷ []) are_closed entries sorted (step_sorted s h.2) h.1 in
     leads_sorted types are_closed entries h.0 b steps leads.sorted.0 h.3
 
 pub goes_sorted : (types : List Entry) → AreClosed types → AreSortedEntries types → (a b : Progress) → IsSortedNode a.node → Goes types a b → IsSortedNode b.node

@@ -16,10 +16,9 @@ use Rattle.wy_search_laws.specs.wy_check_spec.valid.Ranges.{instance_stated, wit
 use Rattle.wy_search_laws.specs.wy_check_spec.valid.Membership.{fact_among}
 use Rattle.wy_search_laws.specs.wy_check_spec.valid.Products.{product_stated}
 use Rattle.wy_search_laws.specs.wy_check_spec.valid.Validity.{left_with, left_with_one, chain_stated, after}
-use Rattle.wy_search_laws.specs.wy_check_laws.sound.Sortedness.{IsSortedStep}
 use Rattle.wy_search_laws.proofs.wy_check_proofs.StepLemmas.{chain_led, cut_led, inst_led, wit_led, fact_led, prod_led}
 use Rattle.wy_prove_drafts.specs.declared.draft.Draft.{Draft}
-use Rattle.wy_prove_drafts.specs.Progress.{Progress, Goes, Writes}
+use Rattle.wy_prove_drafts.specs.Progress.{IsFitStep, Progress, Goes, Writes}
 use Rattle.wy_prove_drafts.specs.Adding.{Adds, States}
 use Rattle.wy_prove_drafts.specs.Draft.{IsDraft, seen_draft}
 use Rattle.wy_prove_drafts.proofs.ProgressLemmas.{goes_by, goes_nowhere}
@@ -35,14 +34,14 @@ answered (Err e) S there W f h is = tt
 -- ---- steps that state formulas
 
 writes_added : (types : List Entry) (s : Written) (fs : List Term) (a b : Progress) → left_with a.node fs ≡ after types a.node s → Adds s fs a b → Writes types s a b true
-writes_added types s fs a b e h = (valid, λ sorted. by sorted h.written)
+writes_added types s fs a b e h = (valid, λ fit. by fit h.written)
   where
     valid : after types a.node s ≡ Some (b.node ∷ [])
     valid = sym e ∙ ap (λ (n : Node). some (n ∷ [])) (sym h.node)
 
-    by : IsSortedStep s → (b.steps ≡ a.steps ++ s ∷ []) ⊎ (b ≡ a) → Goes types a b
-    by sorted (inl is) = goes_by types s a b valid sorted is
-    by sorted (inr same) = goes_nowhere types a b same
+    by : IsFitStep s → (b.steps ≡ a.steps ++ s ∷ []) ⊎ (b ≡ a) → Goes types a b
+    by fit (inl is) = goes_by types s a b valid fit is
+    by fit (inr same) = goes_nowhere types a b same
 
 all_written : {Y : Type 0} (types : List Entry) (s : Written) (view : Y → List Term) (o : Option Y) (a b : Progress) → (option_map view o >>= left_with a.node) ≡ after types a.node s → States s (option_map view o) a b → Writes types s a b (is_some o)
 all_written types s view (Some y) a b e h = writes_added types s (view y) a b e h

@@ -10,8 +10,8 @@ use Rattle.wy_prove_drafts.specs.wy_search_laws.closing.AtLeast.{IsAtLeast, any_
 use Rattle.wy_prove_drafts.proofs.wy_search_laws_proofs.closing_lemmas.AtLeastLemmas.{more_added}
 use Rattle.wy_prove_drafts.proofs.wy_search_laws_proofs.closing_lemmas.NameLemmas.{IsNamedIn, any_literal_there, any_more, near_self}
 use Rattle.wy_prove_drafts.proofs.wy_search_laws_proofs.rounds_lemmas.KindLemmas.{IsUntold, untold, null_said, bool_said, int_said, all_said, kind_fact_is, null_near, bool_near, int_near, all_near}
-use Rattle.wy_prove_drafts.specs.Progress.{Progress}
-use Rattle.wy_prove_rounds.specs.Moving.{IsFit, Moves}
+use Rattle.wy_prove_rounds.specs.Moving.{Moves}
+use Rattle.wy_prove_drafts.specs.Progress.{IsFit, Progress}
 use Rattle.wy_prove_rounds.proofs.MovingLemmas.{moves_as, moves_less, moves_none}
 
 abbrev told : DataKind → Term → Literal

@@ -5,10 +5,9 @@ use Rattle.wy_term.specs.Condition.{Entry}
 use Rattle.wy_prove_drafts.specs.wy_check_spec.judge.Node.{Node}
 use Rattle.wy_cert.specs.Steps.{Written}
 use Rattle.wy_prove_drafts.specs.wy_check_spec.valid.Validity.{after}
-use Rattle.wy_prove_drafts.specs.wy_check_laws.sound.Sortedness.{IsSortedStep}
 use Rattle.wy_prove_drafts.specs.wy_search_laws.closing.AtLeast.{IsAtLeast, IsNear}
 use Rattle.wy_prove_drafts.proofs.wy_search_laws_proofs.closing_lemmas.AtLeastLemmas.{at_least_on}
-use Rattle.wy_prove_drafts.specs.Progress.{Progress, Goes, Writes}
+use Rattle.wy_prove_drafts.specs.Progress.{IsFitStep, Progress, Goes, Writes}
 use Rattle.wy_prove_drafts.proofs.ProgressLemmas.{goes_self, goes_on, goes_nowhere, goes_sorted}
 use Rattle.wy_prove_rounds.specs.Moving.{IsAlong, Follows, Moves}
 use Rattle.wy_prove_rounds.proofs.NodeLemmas.{sorted_node, node_sorted}
@@ -90,10 +89,10 @@ not_some : (n : Node) → left_only (Some n) ≡ None → ⊥
 not_some n e = cc
 
 -- a step that is tried, where it is known to which node it leads, if to any
-pub tried : (types : List Entry) (base a b : Node) (s : Written) (old new : Progress) (valid : Bool) (o : Option Node) → Writes types s old new valid → IsSortedStep s → IsAlong types base a old → after types old.node s ≡ left_only o → IsAtLeast base b → IsNear b (or_same old.node o) → Follows types base b old new
-tried types base a b s old new true (Some n) w sorted h e keeps near =
-    along_by types base a b old new h (w.1 sorted) keeps (subst (IsNear b) (only_one n new.node (sym e ∙ w.0)) near)
-tried types base a b s old new true None w sorted h e keeps near = absurd (not_none new.node (sym e ∙ w.0))
-tried types base a b s old new false (Some n) w sorted h e keeps near = absurd (not_some n (sym e ∙ w.0))
-tried types base a b s old new false None w sorted h e keeps near =
+pub tried : (types : List Entry) (base a b : Node) (s : Written) (old new : Progress) (valid : Bool) (o : Option Node) → Writes types s old new valid → IsFitStep s → IsAlong types base a old → after types old.node s ≡ left_only o → IsAtLeast base b → IsNear b (or_same old.node o) → Follows types base b old new
+tried types base a b s old new true (Some n) w fit h e keeps near =
+    along_by types base a b old new h (w.1 fit) keeps (subst (IsNear b) (only_one n new.node (sym e ∙ w.0)) near)
+tried types base a b s old new true None w fit h e keeps near = absurd (not_none new.node (sym e ∙ w.0))
+tried types base a b s old new false (Some n) w fit h e keeps near = absurd (not_some n (sym e ∙ w.0))
+tried types base a b s old new false None w fit h e keeps near =
     along_by types base a b old new h (goes_nowhere types old new w.1) keeps (subst (IsNear b) (ap (λ (p : Progress). p.node) (sym w.1)) near)

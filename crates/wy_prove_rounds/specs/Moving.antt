@@ -3,15 +3,13 @@ use Rattle.std.specs.Prelude.{List, [], ◌∷◌, ◌≡◌, true}
 use Rattle.wy_term.specs.Term.{Term}
 use Rattle.wy_term.specs.Condition.{Entry}
 use Rattle.wy_term.specs.Unfolding.{AreClosed}
-use Rattle.wy_term_subst.specs.sorted.Sorted.{IsSorted}
-use Rattle.wy_term_text.specs.reread.Folded.{IsFolded}
 use Rattle.wy_prove_drafts.specs.wy_check_spec.judge.Node.{Node}
 use Rattle.wy_prove_drafts.specs.wy_check_spec.valid.Ranges.{is_int}
 use Rattle.wy_prove_drafts.specs.wy_search_spec.Expansion.{Spot}
 use Rattle.wy_prove_drafts.specs.wy_search_laws.closing.AtLeast.{IsAtLeast, IsNear}
 use Rattle.wy_prove_drafts.specs.wy_search_laws.rounds.Leaves.{IsSortedThroughout}
 use Rattle.wy_prove_drafts.specs.wy_check_laws.sound.Sortedness.{AreSortedEntries}
-use Rattle.wy_prove_drafts.specs.Progress.{Progress, Goes}
+use Rattle.wy_prove_drafts.specs.Progress.{IsFit, Progress, Goes}
 use Rattle.wy_prove_rounds.specs.Rounds.{IsBeside}
 
 -- ---- terms
@@ -21,14 +19,9 @@ abbrev pub AllOf : {X : Type 0} → (X → Type 0) → List X → Type 0
 AllOf P [] = Unit {0}
 AllOf P (x ∷ xs) = P x × AllOf P xs
 
--- the parts of the term are sorted, and it is folded
-pub record IsFit (t : Term) : Type 0 where
-  pub sorted : IsSorted t
-  pub folded : IsFolded t
-
--- an Int term whose parts are sorted
+-- a fit Int term
 pub record IsInstant (t : Term) : Type 0 where
-  pub sorted : IsSorted t
+  pub fit : IsFit t
   pub int : is_int t ≡ true
 
 -- ---- nodes

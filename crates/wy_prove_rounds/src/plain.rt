@@ -9,7 +9,8 @@ ghost use Rattle.wy_prove_drafts.specs.wy_search_spec.Expansion as search;
 ghost use Rattle.wy_term.specs.Condition.{condition_of};
 ghost use Rattle.wy_term.specs.Nodes.{tree_at};
 ghost use Rattle.wy_prove_drafts.specs.wy_check_spec.valid.Membership.{fact_among};
-ghost use Rattle.wy_prove_rounds.specs.Moving.{AllOf, IsFit, Moves};
+ghost use Rattle.wy_prove_rounds.specs.Moving.{AllOf, Moves};
+ghost use Rattle.wy_prove_drafts.specs.Progress.{IsFit};
 
 use crate::stated::write_stated;
 use wy_prove_drafts::{Branch, Draft, pending_at};

@@ -16,7 +16,8 @@ ghost use Rattle.wy_term.specs.Nodes.{tree_at};
 ghost use Rattle.wy_term.specs.Term.{Term};
 ghost use Rattle.wy_prove_drafts.specs.wy_check_spec.valid.Literals.{literal_at};
 ghost use Rattle.wy_prove_drafts.specs.wy_check_spec.valid.Products.{as_product};
-ghost use Rattle.wy_prove_rounds.specs.Moving.{IsFit, Moves};
+ghost use Rattle.wy_prove_rounds.specs.Moving.{Moves};
+ghost use Rattle.wy_prove_drafts.specs.Progress.{IsFit};
 
 use wy_prove_drafts::{Branch, Draft, literal_at, literal_number, pending_at, write_product};
 use wy_search::{Bound, Bounds, KnownForms, bounds_of, standing};

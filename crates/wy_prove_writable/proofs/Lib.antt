@@ -1,15 +1,15 @@
 -- names
 pub mod RangeLemmas
 -- terms of a list
-pub mod FoldedLemmas
 pub mod LaidLemmas
-pub mod CopyLemmas
+pub mod OwnLemmas
+-- steps
+pub mod StepLemmas
 -- arguments of facts
 pub mod ConstantLemmas
 -- trees
 pub mod TreeLemmas
 -- what is read again
 pub mod RereadLemmas
-pub mod sorted_lemmas
 -- passed on to the crates above
 pub use Rattle.wy_check_laws.proofs as wy_check_laws_proofs

@@ -1,13 +1,14 @@
 //! Names and numbers that stand in a node beside its parts.
-ghost use Rattle.std.specs.Prelude.{◌≡◌, ◌↔◌, IfOk, IsTrue, map};
+ghost use Rattle.std.specs.Prelude.{◌≡◌, ◌↔◌, IfOk, IsTrue, length, map};
 ghost use Rattle.wy_data.specs.scan.Words.{AreFields, IsWord};
 ghost use Rattle.wy_term_text.specs.spell.Grammar.{IsInRange, IsKind, IsNumbered};
 ghost use Rattle.wy_term.specs.Nodes.{plain, plain_kind};
+ghost use Rattle.wy_prove_writable.specs.InRange.{AreInRange};
 
 use std::alloc::Global;
 use wy_data::Name;
 use wy_data::scan::{are_fields, word};
-use wy_term::{Kind, NoMemory, Node};
+use wy_term::{Kind, NoMemory, Node, Terms};
 
 // Whether a name is a word that is read as a whole.
 fn is_word(alloc: Global, name: &Name) -> Result<bool, NoMemory>
@@ -58,8 +59,8 @@ fn is_kind(alloc: Global, kind: &Kind) -> Result<bool, NoMemory>
     }
 }
 
-/// Whether what stands in a node beside its parts is within its range, in time linear in the node.
-pub fn is_in_range(alloc: Global, node: &Node) -> Result<bool, NoMemory>
+// Whether what stands in a node beside its parts is within its range, in time linear in the node.
+fn is_in_range(alloc: Global, node: &Node) -> Result<bool, NoMemory>
     ensures exactly { IfOk result (λ b. IsTrue b ↔ IsInRange (plain node.now).symbol) }
 {
     match node {
@@ -81,4 +82,20 @@ pub fn is_in_range(alloc: Global, node: &Node) -> Result<bool, NoMemory>
         Node::Some(q) => is_numbered(alloc, &q.word, q.number),
         _ => Ok(true),
     }
+}
+
+/// Whether what stands in each node of a list beside its parts is within its range, in time linear in the nodes. Want of memory is also
+/// the answer where there are 2^32 of them.
+pub fn are_in_range(terms: &Terms) -> Result<bool, NoMemory>
+    ensures { IfOk result (λ b. IsTrue b → AreInRange terms.now (length terms.now)) }
+{
+    let Ok(count) = u32::try_from(terms.len()) else {
+        return Err(NoMemory);
+    };
+    for number in 0..count {
+        if !is_in_range(terms.allocator(), terms.node(number))? {
+            return Ok(false);
+        }
+    }
+    Ok(true)
 }

@@ -8,8 +8,7 @@ use Rattle.wy_cert.specs.Steps.{Written, shut, clash}
 use Rattle.wy_lin.specs.Linear.{◌>>=◌}
 use Rattle.wy_prove_drafts.specs.wy_check_spec.valid.Literals.{is_shut}
 use Rattle.wy_prove_drafts.specs.wy_check_spec.valid.Validity.{after, closed, is_clash}
-use Rattle.wy_prove_drafts.specs.wy_check_laws.sound.Sortedness.{IsSortedStep}
-use Rattle.wy_prove_drafts.specs.Progress.{Progress, Closes, Ends}
+use Rattle.wy_prove_drafts.specs.Progress.{IsFitStep, Progress, Closes, Ends}
 use Rattle.wy_prove_drafts.proofs.ProgressLemmas.{closes_ends}
 use Rattle.wy_prove_leaves.specs.linked.Ended.{EndsUnless, IsOpen, NoTwoClash, NoneClashes}
 
@@ -27,8 +26,8 @@ not_shut types old new h = by (is_shut old.node) refl
 
 -- ---- behind steps that leave the draft as it was
 
-pub ends_from : (types : List Entry) (s : Written) (a b c : Progress) (closes : Bool) → IsSortedStep s → b ≡ a → closes ≡ true → Closes types s b c closes → Ends types a c
-ends_from types s a b c closes sorted same up h = subst (λ (p : Progress). Ends types p c) same (closes_ends types s b c sorted (subst (Closes types s b c) up h))
+pub ends_from : (types : List Entry) (s : Written) (a b c : Progress) (closes : Bool) → IsFitStep s → b ≡ a → closes ≡ true → Closes types s b c closes → Ends types a c
+ends_from types s a b c closes fit same up h = subst (λ (p : Progress). Ends types p c) same (closes_ends types s b c fit (subst (Closes types s b c) up h))
 
 pub no_clash_from : (types : List Entry) (i : ℕ) (other : Option ℕ) (a b c : Progress) (closes : Bool) → b ≡ a → closes ≡ false → Closes types (clash i other) b c closes → (c ≡ a) × (is_clash a.node.literals i other ≡ Some true → ⊥)
 no_clash_from types i other a b c closes same un h =

@@ -10,9 +10,8 @@ use Rattle.wy_cert.specs.Steps.{chain}
 use Rattle.wy_lin.specs.Linear.{◌>>=◌}
 use Rattle.wy_lin.proofs.OptionLemmas.{bind_some}
 use Rattle.wy_prove_drafts.specs.wy_check_spec.valid.Validity.{after, chain_stated, left_with}
-use Rattle.wy_prove_drafts.specs.wy_check_laws.sound.Sortedness.{AreSortedTerms}
 use Rattle.wy_prove_drafts.proofs.wy_search_laws_proofs.closing_lemmas.RelatedLemmas.{formulas_related}
-use Rattle.wy_prove_drafts.specs.Progress.{Progress, Writes}
+use Rattle.wy_prove_drafts.specs.Progress.{AreFit, Progress, Writes}
 use Rattle.wy_prove_drafts.proofs.ProgressLemmas.{goes_on, writes_goes}
 use Rattle.wy_prove_leaves.specs.linked.Grown.{AddsNothing, Grows}
 
@@ -84,9 +83,9 @@ chain_still types ts old new true w ls fs =
     let same = as_long old.node new.node behind ls fs in
     (same, λ gs e. ap (with_formulas old.node) (some_is gs h.formulas (sym e ∙ h.stated)) ∙ (sym h.leads ∙ same))
 
-pub chain_grows : (types : List Entry) (ts : List Term) (old new : Progress) (valid grew : Bool) → AreSortedTerms ts → Writes types (chain ts) old new valid → (grew ≡ false → (length new.node.literals ≡ length old.node.literals) × (length new.node.pending ≡ length old.node.pending)) → Grows types (λ node. AddsNothing node ts) old new grew
-chain_grows types ts old new valid grew sorted w long = record {
-  goes = writes_goes types (chain ts) old new valid sorted w;
+pub chain_grows : (types : List Entry) (ts : List Term) (old new : Progress) (valid grew : Bool) → AreFit ts → Writes types (chain ts) old new valid → (grew ≡ false → (length new.node.literals ≡ length old.node.literals) × (length new.node.pending ≡ length old.node.pending)) → Grows types (λ node. AddsNothing node ts) old new grew
+chain_grows types ts old new valid grew fit w long = record {
+  goes = writes_goes types (chain ts) old new valid fit w;
   still = λ un. let h = long un in chain_still types ts old new valid w h.0 h.1;
 }
 

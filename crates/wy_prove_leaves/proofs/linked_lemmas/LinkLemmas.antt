@@ -8,28 +8,26 @@ use Rattle.wy_term.specs.Same.{same_term}
 use Rattle.wy_term.specs.Nodes.{Plain, tree_at}
 use Rattle.wy_term.specs.Condition.{Entry}
 use Rattle.wy_term.proofs.SameLemmas.{terms_are}
-use Rattle.wy_term_subst.specs.sorted.Sorted.{IsSorted}
 use Rattle.wy_facts.specs.Seen.{Stays}
 use Rattle.wy_facts.proofs.StepLemmas.{terms_kept}
 use Rattle.wy_prove_drafts.specs.wy_check_spec.judge.Node.{Node, has_formula}
 use Rattle.wy_search_spec.specs.least.Least.{IsAmong}
 use Rattle.wy_prove_drafts.specs.wy_cong.declared.present.Present.{Present}
 use Rattle.wy_prove_drafts.specs.wy_cong.Seen.{IsPresent}
-use Rattle.wy_prove_drafts.specs.wy_check_laws.sound.Sortedness.{AreSortedTerms}
 use Rattle.wy_prove_drafts.proofs.wy_search_laws_proofs.chains_lemmas.KindLemmas.{formula_first, formula_later}
-use Rattle.wy_prove_drafts.specs.Progress.{Progress}
+use Rattle.wy_prove_drafts.specs.Progress.{AreFit, IsFit, Progress}
 use Rattle.wy_prove_leaves.specs.linked.Grown.{AddsNothing, Grows}
 use Rattle.wy_prove_leaves.specs.linked.Links.{ArePresent, IsOneOf, SecondAddsNothing, ThirdsAddNothing}
 use Rattle.wy_prove_leaves.proofs.linked_lemmas.GrownLemmas.{grows_on, grows_weaker}
 
 -- ---- terms of a list
 
-pub one_sorted : (ts : List Term) (t : Term) → AreSortedTerms ts → IsAmong ts t → IsSorted t
-one_sorted [] t are e = absurd cc
-one_sorted (u ∷ us) t are e = by (same_term u t) refl e (one_sorted us t are.1)
+one_fit : (ts : List Term) (t : Term) → AreFit ts → IsAmong ts t → IsFit t
+one_fit [] t are e = absurd cc
+one_fit (u ∷ us) t are e = by (same_term u t) refl e (one_fit us t are.1)
   where
-    by : (b : Bool) → same_term u t ≡ b → cond b true (has_formula us t) ≡ true → (IsAmong us t → IsSorted t) → IsSorted t
-    by true f g rest = subst IsSorted (terms_are u t f) are.0
+    by : (b : Bool) → same_term u t ≡ b → cond b true (has_formula us t) ≡ true → (IsAmong us t → IsFit t) → IsFit t
+    by true f g rest = subst IsFit (terms_are u t f) are.0
     by false f g rest = rest g
 
 nth_among : (at : ℕ → Term) (ks : List ℕ) (i : ℕ) → i < length ks → IsAmong (map at ks) (at (slice_index ks i))
@@ -49,7 +47,7 @@ each_among at (k ∷ ks) P each t e = by (same_term (at k) t) refl e (each_among
 -- ---- the list of the condition's terms grows
 
 pub are_present_stay : (old new : List Plain) (p : Present) (ts : List Term) → Stays old new → IsPresent old p → ArePresent old p ts → ArePresent new p ts
-are_present_stay old new p ts stays is are = record { seen = terms_kept old new p.numbers.items stays is.below ∙ are.seen; sorted = are.sorted }
+are_present_stay old new p ts stays is are = record { seen = terms_kept old new p.numbers.items stays is.below ∙ are.seen; fit = are.fit }
 
 pub one_stays : (old new : List Plain) (ts : List Term) (k : ℕ) (t : Term) → Stays old new → k < length old → IsOneOf old ts k t → IsOneOf new ts k t
 one_stays old new ts k t stays lt is = record { named = stays.trees k lt ∙ is.named; among = is.among }
@@ -65,8 +63,8 @@ nth_of old now p ts i k stays is are lt here =
     }
 
 -- two terms and three, as their numbers name them
-pub one_named : (nodes : List Plain) (ts : List Term) (k : ℕ) (t : Term) → AreSortedTerms ts → IsOneOf nodes ts k t → IsSorted (tree_at nodes k)
-one_named nodes ts k t sorted is = subst IsSorted (sym is.named) (one_sorted ts t sorted is.among)
+pub one_named : (nodes : List Plain) (ts : List Term) (k : ℕ) (t : Term) → AreFit ts → IsOneOf nodes ts k t → IsFit (tree_at nodes k)
+one_named nodes ts k t fit is = subst IsFit (sym is.named) (one_fit ts t fit is.among)
 
 pub two_named : (nodes : List Plain) (ts : List Term) (i j : ℕ) (s t : Term) → IsOneOf nodes ts i s → IsOneOf nodes ts j t → tree_at nodes i ∷ tree_at nodes j ∷ [] ≡ s ∷ t ∷ []
 two_named nodes ts i j s t f g = ap (λ (x : Term). x ∷ tree_at nodes j ∷ []) f.named ∙ ap (λ (x : Term). s ∷ x ∷ []) g.named

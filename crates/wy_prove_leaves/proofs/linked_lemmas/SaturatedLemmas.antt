@@ -119,5 +119,5 @@ module _ (types : List Entry) (base m : Node) (least : ClassesAreCongruent) (is 
 pub linked_or_ended : (types : List Entry) (base : Node) (a b c : Progress) (ends : Bool) → ClassesAreCongruent → IsBase base a.node → IsSaturated (present base) (classes (present base) base.literals) b.node → Goes types a b → EndsUnless IsOpen types b c ends → LinksOrEnds types base a c ends
 linked_or_ended types base a b c true least is saturated goes h = ends_behind types a b c goes h
 linked_or_ended types base a b c false least is saturated goes h =
-    let above : IsBase base b.node = record { literals = is.literals; pending = is.pending; folded = is.folded; at_least = at_least_on base a.node b.node is.at_least (goes_more types a b goes) } in
+    let above : IsBase base b.node = record { literals = is.literals; pending = is.pending; folded = is.folded; throughout = is.throughout; at_least = at_least_on base a.node b.node is.at_least (goes_more types a b goes) } in
     subst (λ (p : Progress). LinksOrEnds types base a p false) (sym h.0) (goes, classes_linked types base b.node least above saturated h.1, no_clash types base b.node least above saturated h.1)

@@ -57,7 +57,7 @@ linked_kept base a b more h =
       pending = λ f e. subst (λ (fs : List Term). has_formula fs f ≡ true) (sym more.pending) (h.given.at_least.pending f e);
     } in
     record {
-      given = record { literals = h.given.literals; pending = h.given.pending; folded = h.given.folded; at_least = at_least };
+      given = record { literals = h.given.literals; pending = h.given.pending; folded = h.given.folded; throughout = h.given.throughout; at_least = at_least };
       joined = λ s t e. linked_more a b has s t (h.joined s t e);
     }
 

@@ -10,13 +10,15 @@ use Rattle.wy_search_spec.specs.Classes.{in_one_class, classes, clashes}
 use Rattle.wy_prove_drafts.specs.wy_search_laws.closing.AtLeast.{IsAtLeast}
 use Rattle.wy_prove_drafts.specs.wy_check_laws.sound.Sortedness.{AreFormulas}
 use Rattle.wy_prove_drafts.specs.wy_search_laws.chains.Chains.{AreFolded}
+use Rattle.wy_prove_drafts.specs.wy_search_laws.rounds.Leaves.{IsFoldedThroughout}
 use Rattle.wy_prove_drafts.specs.Progress.{Progress, Goes, Ends}
 
--- the first node is of sorted formulas and folded literals, and the second has what it has
+-- the first node is of sorted and folded formulas, and the second has what it has
 pub record IsBase (base node : Node) : Type 0 where
   pub literals : AreLiterals base.literals
   pub pending : AreFormulas base.pending
   pub folded : AreFolded base.literals
+  pub throughout : IsFoldedThroughout base
   pub at_least : IsAtLeast base node
 
 -- two terms of one class of the first node are one term, or literals of the second node join them

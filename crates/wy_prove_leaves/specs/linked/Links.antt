@@ -7,13 +7,13 @@ use Rattle.wy_search_spec.specs.Classes.{in_one_class}
 use Rattle.wy_search_spec.specs.least.Least.{IsAmong}
 use Rattle.wy_prove_drafts.specs.wy_cong.Seen.{terms_of}
 use Rattle.wy_prove_drafts.specs.wy_cong.declared.present.Present.{Present}
-use Rattle.wy_prove_drafts.specs.wy_check_laws.sound.Sortedness.{AreSortedTerms}
+use Rattle.wy_prove_drafts.specs.Progress.{AreFit}
 use Rattle.wy_prove_leaves.specs.linked.Grown.{AddsNothing}
 
--- the terms present, of sorted parts
+-- the terms present, which are fit
 pub record ArePresent (nodes : List Plain) (p : Present) (ts : List Term) : Type 0 where
   pub seen : terms_of (tree_at nodes) p ≡ ts
-  pub sorted : AreSortedTerms ts
+  pub fit : AreFit ts
 
 -- the number is that of this term, one of the list
 pub record IsOneOf (nodes : List Plain) (ts : List Term) (k : ℕ) (t : Term) : Type 0 where

@@ -3,7 +3,7 @@ ghost use Rattle.std.specs.Prelude.{List, IfOk, OnOk, length};
 ghost use Rattle.wy_prove_drafts.specs.Draft.{IsDraft, seen_draft};
 ghost use Rattle.wy_facts.specs.Seen.{terms_at, AreBelow, Stays};
 ghost use Rattle.wy_prove_leaves.specs.linked.Grown.{AddsNothing, Grows};
-ghost use Rattle.wy_prove_drafts.specs.wy_check_laws.sound.Sortedness.{AreSortedTerms};
+ghost use Rattle.wy_prove_drafts.specs.Progress.{AreFit};
 ghost use Rattle.wy_term.specs.Condition.{Entry};
 ghost use Rattle.wy_term.specs.Nodes.{tree_at};
 
@@ -14,7 +14,7 @@ use wy_term::{NoMemory, Terms};
 pub fn link(terms: &mut Terms, draft: &mut Draft, chain: &[u32]) -> Result<bool, NoMemory>
     requires draft { IsDraft terms.old draft.old }
     requires chain { AreBelow (length terms.old) chain.now }
-    ensures value { (types : List Entry) → AreSortedTerms (terms_at terms.old chain.now) → IfOk result (Grows types (λ node. AddsNothing node (terms_at terms.old chain.now)) (seen_draft (tree_at terms.old) draft.old) (seen_draft (tree_at terms.new) draft.new)) }
+    ensures value { (types : List Entry) → AreFit (terms_at terms.old chain.now) → IfOk result (Grows types (λ node. AddsNothing node (terms_at terms.old chain.now)) (seen_draft (tree_at terms.old) draft.old) (seen_draft (tree_at terms.new) draft.new)) }
     ensures draft { OnOk result (IsDraft terms.new draft.new) }
     ensures stays { Stays terms.old terms.new }
 {

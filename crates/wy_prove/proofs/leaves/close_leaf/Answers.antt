@@ -9,8 +9,8 @@ use Rattle.wy_prove_rounds.specs.wy_search.StatedSeen.{seen_spot}
 use Rattle.wy_prove_leaves.specs.wy_search_laws.rounds.Leaves.{IsLeaf}
 use Rattle.wy_prove_rounds.specs.wy_prove_drafts.Draft.{seen_draft}
 use Rattle.wy_prove_leaves.specs.linked.Linked.{IsBase}
-use Rattle.wy_prove.specs.Plans.{AreSortedAt, GoesOrEnds}
-use Rattle.wy_prove.proofs.LeafLemmas.{base_on, beside_base, ended_ok, present_are_sorted}
+use Rattle.wy_prove.specs.Plans.{AreFitAt, GoesOrEnds}
+use Rattle.wy_prove.proofs.LeafLemmas.{base_on, beside_base, ended_ok, present_are_fit}
 use Rattle.wy_prove.proofs.leaves.close_leaf.Goals as goal
 
 pub follow-requires-clause-known : goal.follow-requires-clause-known
@@ -23,7 +23,7 @@ returns-then-branch-clause-value c = λ types beside leaf here.
     let a = seen_draft (tree_at old) c.args.draft.now in
     let b = seen_draft (tree_at c.follow.new.terms) c.follow.new.draft in
     let up : c.in_ok-follow.field-0 ≡ true = search rules in
-    subst (GoesOrEnds types a b) up (c.in_ok-follow.ensures.value types (subst (AreSortedAt old) (sym c.deref.ensures.value) (present_are_sorted types old p a c.args.leaf.now.plan.present beside here)))
+    subst (GoesOrEnds types a b) up (c.in_ok-follow.ensures.value types (subst (AreFitAt old) (sym c.deref.ensures.value) (present_are_fit types old p a c.args.leaf.now.plan.present beside here)))
 
 pub close_plainly-requires-clause-base : goal.close_plainly-requires-clause-base
 close_plainly-requires-clause-base c = branch_stays c.args.terms.now c.follow.new.terms c.args.leaf.now.spot.branch c.in_ok-follow.ensures.stays c.requires.leaf.0.branch
@@ -37,7 +37,7 @@ returns-clause-value c = λ types beside leaf here.
     let b = seen_draft (tree_at mid) c.follow.new.draft in
     let d = seen_draft (tree_at c.close_plainly.new.terms) c.close_plainly.new.draft in
     let un : c.in_ok-follow.field-0 ≡ false = search rules in
-    let goes = subst (GoesOrEnds types a b) un (c.in_ok-follow.ensures.value types (subst (AreSortedAt old) (sym c.deref.ensures.value) (present_are_sorted types old p a c.args.leaf.now.plan.present beside here))) in
+    let goes = subst (GoesOrEnds types a b) un (c.in_ok-follow.ensures.value types (subst (AreFitAt old) (sym c.deref.ensures.value) (present_are_fit types old p a c.args.leaf.now.plan.present beside here))) in
     let same : seen_branch (tree_at mid) c.args.leaf.now.spot.branch ≡ p.node = node_stays old mid c.args.leaf.now.spot.branch c.in_ok-follow.ensures.stays c.requires.leaf.0.branch in
     ended_ok c.close_plainly.result types a b d goes
     (c.close_plainly.ensures.value types (subst (λ (n : Node). IsBase n b.node) (sym same) (base_on types p.node a b goes (beside_base types p a beside))) (subst IsLeaf (sym same) leaf))

@@ -5,12 +5,12 @@ use Rattle.wy_prove.proofs.LeafLemmas.{closes_ok}
 use Rattle.wy_prove.proofs.plans.follow_one.Goals as goal
 
 pub returns-in-Shut-clause-value : goal.returns-in-Shut-clause-value
-returns-in-Shut-clause-value c = λ types sorted.
+returns-in-Shut-clause-value c = λ types fit.
     let at = tree_at c.args.terms.now in
     closes_ok c.close_by_shut.result types shut (seen_draft at c.args.draft.now) (seen_draft at c.close_by_shut.new.draft) tt (c.close_by_shut.ensures.value types)
 
 pub returns-in-Clash-clause-value : goal.returns-in-Clash-clause-value
-returns-in-Clash-clause-value c = λ types sorted. c.shut_or_clash.ensures.value types
+returns-in-Clash-clause-value c = λ types fit. c.shut_or_clash.ensures.value types
 
 pub returns-in-Sum-clause-value : goal.returns-in-Sum-clause-value
-returns-in-Sum-clause-value c = λ types sorted. c.sum.ensures.value types
+returns-in-Sum-clause-value c = λ types fit. c.sum.ensures.value types

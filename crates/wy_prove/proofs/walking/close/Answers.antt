@@ -2,7 +2,7 @@ use Rattle.std.proofs.Common.{◌≡◌, ◌+◌, List, [], map, sym, subst, ari
 use Rattle.wy_cert.specs.Steps.{written}
 use Rattle.wy_term.specs.Nodes.{tree_at}
 use Rattle.wy_prove_rounds.specs.wy_check_spec.valid.Validity.{IsValid}
-use Rattle.wy_prove_writable.specs.wy_check_laws.sound.Sortedness.{AreSortedSteps}
+use Rattle.wy_prove_rounds.specs.wy_prove_drafts.Progress.{AreFitSteps}
 use Rattle.wy_prove.specs.declared.walking.Waiting.{Waiting}
 use Rattle.wy_prove.specs.Tracks.{IsLeft}
 use Rattle.wy_prove.specs.Walks.{seen_waiting, AreWaiting}
@@ -18,7 +18,7 @@ returns-in-None-clause-value c = λ k v at h.
     record {
       found = none_found k c.args.budget v (c.args.leaves + 1) steps left;
       valid = subst (IsValid k) (sym c.ended.ensures.steps) so.0;
-      sorted = subst AreSortedSteps (sym c.ended.ensures.steps) so.1;
+      fit = subst AreFitSteps (sym c.ended.ensures.steps) so.1;
     }
 
 pub returns-in-None-clause-turned : goal.returns-in-None-clause-turned

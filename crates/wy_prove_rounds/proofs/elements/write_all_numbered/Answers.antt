@@ -10,7 +10,7 @@ use Rattle.wy_term.specs.Condition.{Entry, condition_of}
 use Rattle.wy_term.specs.Nodes.{tree_at}
 use Rattle.wy_term.specs.Term.{Term, Number}
 use Rattle.wy_prove_drafts.specs.wy_check_spec.valid.Membership.{fact_among}
-use Rattle.wy_prove_rounds.specs.Moving.{IsFit}
+use Rattle.wy_prove_drafts.specs.Progress.{IsFit}
 use Rattle.wy_prove_rounds.proofs.LoopLemmas.{moves_at}
 use Rattle.wy_prove_rounds.proofs.MovingLemmas.{moves_as, moves_none, moves_on}
 use Rattle.wy_prove_rounds.proofs.elements.write_all_numbered.Goals as goal

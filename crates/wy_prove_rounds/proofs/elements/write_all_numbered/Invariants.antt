@@ -4,7 +4,8 @@ use Rattle.wy_prove_drafts.specs.wy_check_spec.judge.Node.{Node}
 use Rattle.wy_search.specs.wy_search_facts.Adding.{with_numbered}
 use Rattle.wy_term.specs.Condition.{condition_of}
 use Rattle.wy_term.specs.Nodes.{tree_at}
-use Rattle.wy_prove_rounds.specs.Moving.{IsFit, Moves}
+use Rattle.wy_prove_rounds.specs.Moving.{Moves}
+use Rattle.wy_prove_drafts.specs.Progress.{IsFit}
 use Rattle.wy_prove_rounds.proofs.elements.write_all_numbered.Given as goal
 
 -- the draft has moved along with so many numbers

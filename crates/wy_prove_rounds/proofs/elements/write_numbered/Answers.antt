@@ -3,7 +3,7 @@ use Rattle.wy_prove_drafts.proofs.DraftLemmas.{draft_stays, seen_draft_stays}
 use Rattle.wy_facts.proofs.SharedLemmas.{types_stay}
 use Rattle.wy_prove_drafts.specs.wy_check_spec.judge.Node.{Node}
 use Rattle.wy_prove_drafts.specs.wy_search_spec.Expansion.{with_some}
-use Rattle.wy_term_subst.specs.sorted.Sorted.{IsSorted}
+use Rattle.wy_prove_drafts.specs.Progress.{IsFit}
 use Rattle.wy_search.proofs.wy_search_facts_proofs.AddingLemmas.{types_up}
 use Rattle.wy_term.specs.Nodes.{tree_at}
 use Rattle.wy_term.specs.Term.{Term}
@@ -23,7 +23,7 @@ returns-clause-value c = λ base fit.
     let now = c.number.new.terms in
     let stays = c.in_ok-i.ensures.stays in
     let tree = stays.trees c.args.t c.requires.term in
-    let one : IsSorted (tree_at now c.args.t) = subst IsSorted (sym tree) fit.sorted in
-    let two : IsSorted (tree_at now c.in_ok-i.i) = subst IsSorted (sym c.in_ok-i.ensures.value) tt in
+    let one : IsFit (tree_at now c.args.t) = subst IsFit (sym tree) fit in
+    let two : IsFit (tree_at now c.in_ok-i.i) = subst IsFit (sym c.in_ok-i.ensures.value) (record { sorted = tt; folded = (refl, tt) }) in
     moves_from c.write_stated.result _ _ base base _ _ _ _ _ (types_stay old now c.args.cond.now stays c.requires.types) refl (seen_draft_stays old now c.args.draft.now stays c.requires.draft)
     (λ (node : Node). ap₂ (λ (t k : Term). with_some node (fact_among [] 4 (t ∷ k ∷ []))) tree c.in_ok-i.ensures.value) (c.write_stated.ensures.value base (one, (two, tt)))

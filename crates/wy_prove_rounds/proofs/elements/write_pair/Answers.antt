@@ -9,7 +9,7 @@ use Rattle.wy_term.specs.Nodes.{tree_at}
 use Rattle.wy_term.specs.Same.{same_term}
 use Rattle.wy_term.specs.Term.{Not}
 use Rattle.wy_prove_drafts.specs.wy_check_spec.valid.Membership.{fact_among}
-use Rattle.wy_prove_rounds.specs.Moving.{IsFit}
+use Rattle.wy_prove_drafts.specs.Progress.{IsFit}
 use Rattle.wy_prove_rounds.proofs.MovingLemmas.{if_moves, moves_none}
 use Rattle.wy_prove_rounds.proofs.elements.write_pair.Goals as goal
 
@@ -41,4 +41,4 @@ returns-clause-value c = λ base one two.
     let other : IsFit u = subst (λ (b : Bool). IsFit (signed u b)) up two in
     if_moves c.write_stated.result (condition_of c.args.terms.now c.args.cond.now).types base _ _ _ _
     (λ (node : Node). sym (ap (λ (b : Bool). cond b node (with_some node (fact_among [] 8 (t ∷ u ∷ [])))) apart) ∙ ap (λ (b : Bool). with_pairs_of node t (signed u b ∷ [])) (sym up))
-    (c.write_stated.ensures.value base (one.sorted, (other.sorted, tt)))
+    (c.write_stated.ensures.value base (one, (other, tt)))

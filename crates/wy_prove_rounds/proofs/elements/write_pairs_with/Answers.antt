@@ -9,7 +9,7 @@ use Rattle.wy_search.proofs.wy_search_facts_proofs.DenialLemmas.{is_none, pairs_
 use Rattle.wy_term.specs.Condition.{condition_of}
 use Rattle.wy_term.specs.Nodes.{tree_at}
 use Rattle.wy_term.specs.Term.{Not}
-use Rattle.wy_prove_rounds.specs.Moving.{IsFit}
+use Rattle.wy_prove_drafts.specs.Progress.{IsFit}
 use Rattle.wy_prove_rounds.proofs.MovingLemmas.{if_moves, moves_none}
 use Rattle.wy_prove_rounds.proofs.elements.write_pairs_with.Goals as goal
 

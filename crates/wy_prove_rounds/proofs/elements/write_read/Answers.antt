@@ -6,7 +6,7 @@ use Rattle.wy_prove_drafts.specs.wy_search_spec.Expansion.{read_from, with_eleme
 use Rattle.wy_search.proofs.wy_search_facts_proofs.ElementLemmas.{elements_are}
 use Rattle.wy_term.specs.Condition.{condition_of}
 use Rattle.wy_term.specs.Nodes.{tree_at}
-use Rattle.wy_prove_rounds.specs.Moving.{IsFit}
+use Rattle.wy_prove_drafts.specs.Progress.{IsFit}
 use Rattle.wy_prove_rounds.proofs.MovingLemmas.{if_moves, moves_none}
 use Rattle.wy_prove_rounds.proofs.elements.write_read.Goals as goal
 

@@ -11,7 +11,8 @@ use Rattle.wy_search.proofs.wy_search_facts_proofs.AddingLemmas.{types_up}
 use Rattle.wy_term.specs.Condition.{Entry, condition_of}
 use Rattle.wy_term.specs.Nodes.{tree_at}
 use Rattle.wy_term.specs.Term.{Term}
-use Rattle.wy_prove_rounds.specs.Moving.{AllOf, IsFit}
+use Rattle.wy_prove_rounds.specs.Moving.{AllOf}
+use Rattle.wy_prove_drafts.specs.Progress.{IsFit}
 use Rattle.wy_prove_rounds.proofs.FactLemmas.{schema_goes}
 use Rattle.wy_prove_rounds.proofs.LoopLemmas.{moves_at}
 use Rattle.wy_prove_rounds.proofs.MovingLemmas.{moves_as, moves_none}

@@ -22,7 +22,7 @@ returns-in_ok-write_instance-in-Some-clause-value c = λ types base there instan
     let i = c.in-Some.i in
     let is : literal_at d.node.literals i ≡ Some l = subst (λ (o : Option ℕ). IfSome o (λ k. literal_at d.node.literals k ≡ Some l)) c.in-Some.is c.in_ok-i.ensures.there in
     moves_as types base (λ node. with_some node (instance_stated d.node.literals i t)) (λ node. with_instances_by node c.args.holds (of_each l) (t ∷ [])) d e (instance_is d.node.literals l i t is instant.int)
-    (instance_moves types base i t d e _ (c.in_ok-write_instance-in-Some.ensures.value types) instant.sorted)
+    (instance_moves types base i t d e _ (c.in_ok-write_instance-in-Some.ensures.value types) instant.fit)
 
 pub returns-in-None-clause-value : goal.returns-in-None-clause-value
 returns-in-None-clause-value c = λ types base there instant.

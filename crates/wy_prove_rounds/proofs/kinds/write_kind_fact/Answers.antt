@@ -5,7 +5,7 @@ use Rattle.wy_prove_drafts.specs.wy_check_nodes.Seen.{seen_branch, signed}
 use Rattle.wy_prove_drafts.specs.wy_search_spec.Expansion.{kind_fact, with_some}
 use Rattle.wy_term.specs.Condition.{condition_of}
 use Rattle.wy_term.specs.Nodes.{tree_at}
-use Rattle.wy_prove_rounds.specs.Moving.{IsFit}
+use Rattle.wy_prove_drafts.specs.Progress.{IsFit}
 use Rattle.wy_prove_rounds.proofs.MovingLemmas.{if_moves, moves_none}
 use Rattle.wy_prove_rounds.proofs.kinds.write_kind_fact.Goals as goal
 

@@ -6,7 +6,8 @@ use Rattle.wy_prove_drafts.specs.wy_check_nodes.Seen.{seen_formula}
 use Rattle.wy_prove_drafts.specs.wy_search_spec.Expansion.{with_facts_of_one, all_measured}
 use Rattle.wy_term.specs.Condition.{condition_of}
 use Rattle.wy_term.specs.Nodes.{tree_at}
-use Rattle.wy_prove_rounds.specs.Moving.{AllOf, IsFit, Moves}
+use Rattle.wy_prove_rounds.specs.Moving.{AllOf, Moves}
+use Rattle.wy_prove_drafts.specs.Progress.{IsFit}
 use Rattle.wy_prove_rounds.proofs.plain.write_lengths.Given as goal
 
 -- the draft has moved along with what stands in the node so far

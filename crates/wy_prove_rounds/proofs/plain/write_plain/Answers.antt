@@ -11,7 +11,7 @@ use Rattle.wy_term.specs.Condition.{Entry, condition_of}
 use Rattle.wy_term.specs.Nodes.{tree_at}
 use Rattle.wy_term.specs.Term.{Term}
 use Rattle.wy_prove_drafts.specs.wy_check_spec.valid.Membership.{fact_among}
-use Rattle.wy_prove_rounds.specs.Moving.{IsFit}
+use Rattle.wy_prove_drafts.specs.Progress.{IsFit}
 use Rattle.wy_prove_rounds.proofs.LoopLemmas.{loop_begins, loop_ends, loop_goes, moves_at, of_all}
 use Rattle.wy_prove_rounds.proofs.plain.write_plain.Goals as goal
 

@@ -45,4 +45,4 @@ returns-clause-value c = λ types fit s t f g a b v w factors one two x y.
     let second : literal_at d.node.literals j ≡ literal_at base.literals c.args.y.number = subst (λ (o : Option ℕ). IfSome o (λ k. literal_at d.node.literals k ≡ literal_at base.literals c.args.y.number)) c.in-Some-2.is c.in_ok-j.ensures.there in
     moves_as types base (λ node. with_some node (product_stated d.node.literals i j p)) _ d e
     (λ node. ap (with_some node) (stated_same d.node.literals base.literals i j c.args.x.number c.args.y.number p first second) ∙ pushed base.literals c.args.x c.args.y p s t f g a b v w factors one two x y node)
-    (product_moves types base i j p d e _ (c.in_ok-write_product.ensures.value types) fit.sorted)
+    (product_moves types base i j p d e _ (c.in_ok-write_product.ensures.value types) fit)

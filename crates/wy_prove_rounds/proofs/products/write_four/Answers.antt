@@ -8,7 +8,8 @@ use Rattle.wy_prove_drafts.proofs.wy_check_nodes_proofs.SumsBranchLemmas.{branch
 use Rattle.wy_lemmas.proofs.Options.{on_ok}
 use Rattle.wy_prove_drafts.specs.wy_search_spec.Expansion.{best_bound, bound_of, with_product}
 use Rattle.wy_term.specs.Nodes.{tree_at}
-use Rattle.wy_prove_rounds.specs.Moving.{IsFit, Moves}
+use Rattle.wy_prove_rounds.specs.Moving.{Moves}
+use Rattle.wy_prove_drafts.specs.Progress.{IsFit}
 use Rattle.wy_prove_rounds.proofs.MovingLemmas.{moves_on}
 use Rattle.wy_prove_rounds.proofs.ProductMoves.{product_led}
 use Rattle.wy_prove_rounds.proofs.products.write_four.Goals as goal

@@ -10,7 +10,8 @@ use Rattle.wy_term.specs.Condition.{Entry}
 use Rattle.wy_term.specs.Nodes.{tree_at}
 use Rattle.wy_term.specs.Term.{Term}
 use Rattle.wy_prove_drafts.specs.wy_check_spec.valid.Products.{as_product}
-use Rattle.wy_prove_rounds.specs.Moving.{AllOf, IsFit, Moves}
+use Rattle.wy_prove_rounds.specs.Moving.{AllOf, Moves}
+use Rattle.wy_prove_drafts.specs.Progress.{IsFit}
 use Rattle.wy_prove_rounds.proofs.LoopLemmas.{loop_begins, loop_ends, loop_goes, moves_at, of_all}
 use Rattle.wy_prove_rounds.proofs.NodeLemmas.{standing_fit}
 use Rattle.wy_prove_rounds.proofs.products.write_products.Goals as goal

@@ -12,7 +12,7 @@ use Rattle.wy_lin.specs.TermForm.{form_of}
 use Rattle.wy_prove_drafts.specs.wy_search_spec.Expansion.{with_four}
 use Rattle.wy_term.specs.Nodes.{tree_at}
 use Rattle.wy_term.specs.Term.{Term}
-use Rattle.wy_prove_rounds.specs.Moving.{IsFit}
+use Rattle.wy_prove_drafts.specs.Progress.{IsFit}
 use Rattle.wy_prove_rounds.proofs.LoopLemmas.{moves_from}
 use Rattle.wy_prove_rounds.proofs.ProductMoves.{moves_kept}
 use Rattle.wy_prove_rounds.proofs.products.write_products_of.Goals as goal

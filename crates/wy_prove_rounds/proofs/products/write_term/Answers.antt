@@ -6,7 +6,7 @@ use Rattle.wy_prove_drafts.specs.wy_search_spec.Expansion.{with_products_of}
 use Rattle.wy_term.specs.Nodes.{tree_at}
 use Rattle.wy_term.specs.Term.{Term}
 use Rattle.wy_prove_drafts.specs.wy_check_spec.valid.Products.{as_product}
-use Rattle.wy_prove_rounds.specs.Moving.{IsFit}
+use Rattle.wy_prove_drafts.specs.Progress.{IsFit}
 use Rattle.wy_prove_rounds.proofs.MovingLemmas.{if_moves, moves_none}
 use Rattle.wy_prove_rounds.proofs.products.write_term.Goals as goal
 

@@ -1,8 +1,0 @@
-use Rattle.std.proofs.Common.{◌↔◌, drop, map}
-use Rattle.wy_term.specs.Nodes.{tree_at}
-use Rattle.wy_check_laws.specs.reread.Writable.{AreWritableArguments}
-use Rattle.wy_prove_writable.proofs.arguments.are_arguments.Given as goal
-
--- all can be written exactly where those can that are left
-abbrev pub invariant-loop-term : goal.invariant-loop-term
-invariant-loop-term l = AreWritableArguments (map (tree_at l.terms) (drop l.term-index l.all)) ↔ AreWritableArguments (map (tree_at l.terms) l.all)

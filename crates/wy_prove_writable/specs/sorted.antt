@@ -1,2 +1,0 @@
--- what functions inside owe each other
-pub mod Sorts
