@@ -5,7 +5,7 @@ use Rattle.wy_term.specs.Nodes.{tree_at}
 use Rattle.wy_cert.specs.declared.step.Cert.{Cert}
 use Rattle.wy_cert.specs.Steps.{steps_of, NamesItsTerms}
 use Rattle.wy_prove_explaining.specs.wy_check_nodes.Seen.{seen_literal, AreOver}
-use Rattle.wy_prove_leaves.specs.wy_search_spec.Tree.{Verdict, found, open_leaf, spent, IsVerdict}
+use Rattle.wy_prove_leaves.specs.wy_search_spec.Tree.{found, open_leaf, spent, IsVerdict}
 use Rattle.wy_prove_rounds.specs.wy_check_spec.valid.Validity.{IsValid}
 use Rattle.wy_prove_rounds.specs.wy_search.Seen.{seen_why}
 use Rattle.wy_prove_writable.specs.Writable.{AreWritable}

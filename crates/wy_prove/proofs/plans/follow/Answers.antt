@@ -23,7 +23,7 @@ returns-then-branch-clause-value c = λ types fit.
     let b = seen_draft (tree_at mid) c.loop-action.draft in
     let d = seen_draft (tree_at c.follow_one.new.terms) c.follow_one.new.draft in
     let up : c.in_ok-follow_one.field-0 ≡ true = search rules in
-    ends_behind types a b d (c.loop-action.invariant.goes types sorted)
+    ends_behind types a b d (c.loop-action.invariant.goes types fit)
     (subst (GoesOrEnds types b d) up (c.in_ok-follow_one.ensures.value types (fit_kept old mid c.args.known.now c.loop-action.invariant.stays c.requires.known fit)))
 
 pub returns-then-branch-clause-stays : goal.returns-then-branch-clause-stays
@@ -39,7 +39,7 @@ loop-action-preserved c =
     let d = seen_draft (tree_at new) c.follow_one.new.draft in
     let un : c.in_ok-follow_one.field-0 ≡ false = search rules in
     record {
-      goes = λ types fit. goes_on types a b d (c.loop-action.invariant.goes types sorted)
+      goes = λ types fit. goes_on types a b d (c.loop-action.invariant.goes types fit)
           (subst (GoesOrEnds types b d) un (c.in_ok-follow_one.ensures.value types (fit_kept old mid c.args.known.now c.loop-action.invariant.stays c.requires.known fit)));
       draft = c.in_ok-follow_one.ensures.draft;
       known = below_kept mid new c.args.known.now c.in_ok-follow_one.ensures.stays c.loop-action.invariant.known;
