@@ -15,7 +15,7 @@ use Rattle.wy_term.specs.Term.{Term}
 
 -- ---- what is listed stays listed
 
-more_has : (done : List Term) (u t : Term) → has_formula done t ≡ true → has_formula (done ++ u ∷ []) t ≡ true
+pub more_has : (done : List Term) (u t : Term) → has_formula done t ≡ true → has_formula (done ++ u ∷ []) t ≡ true
 more_has [] u t e = absurd (cc)
 more_has (g ∷ gs) u t e = by (same_term g t) e (more_has gs u t)
   where
@@ -23,7 +23,7 @@ more_has (g ∷ gs) u t e = by (same_term g t) e (more_has gs u t)
     by true f more = refl
     by false f more = more f
 
-last_has : (done : List Term) (t : Term) → has_formula (done ++ t ∷ []) t ≡ true
+pub last_has : (done : List Term) (t : Term) → has_formula (done ++ t ∷ []) t ≡ true
 last_has [] t = ap (λ b. cond b true false) (terms_self t)
 last_has (g ∷ gs) t = by (same_term g t) (last_has gs t)
   where

@@ -47,7 +47,7 @@ pub mod KindLemmas
 pub mod FirstKindLemmas
 -- constants that are noted with their classes
 pub mod ConstantLemmas
-pub mod congruence_closure_lemmas
+pub mod equality_lemmas
 -- passed on to the crates above
 pub use Rattle.wy_check_splits.proofs.wy_check_nodes_proofs as wy_check_nodes_proofs
 pub use Rattle.wy_search_spec.proofs.wy_check_spec_proofs as wy_check_spec_proofs

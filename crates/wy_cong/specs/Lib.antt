@@ -23,7 +23,7 @@ pub mod Pairs
 pub mod Signatures
 -- a kind for each class
 pub mod Firsts
-pub mod congruence_closure
+pub mod equality
 -- passed on to the crates above
 pub use Rattle.wy_check_splits.specs.wy_check_nodes as wy_check_nodes
 pub use Rattle.wy_search_spec.specs.wy_check_spec as wy_check_spec

@@ -15,8 +15,8 @@ use crate::present::Present;
 use wy_check_splits::{Branch, nth_literal};
 use wy_term::{NoMemory, Node, Terms};
 
-// The classes of two terms become one.
-fn with_equal(
+/// The classes of two terms become one.
+pub fn with_equal(
     terms: &Terms,
     present: &Present,
     labels: Vec<u32>,
@@ -140,9 +140,9 @@ fn with_all_congruent(
     Ok(labels)
 }
 
-// As many rounds as there are terms; it ends before one that has nothing to join, or with the first that changes nothing, since
-// none behind it would.
-fn rounds(terms: &Terms, present: &Present, labels: Vec<u32>) -> Result<Vec<u32>, NoMemory>
+/// As many rounds as there are terms; it ends before one that has nothing to join, or with the first that changes nothing, since
+/// none behind it would.
+pub fn rounds(terms: &Terms, present: &Present, labels: Vec<u32>) -> Result<Vec<u32>, NoMemory>
     requires { IsPresent terms.now present.now }
     ensures { IfOk result (λ made. made.items ≡ classes.rounds (length (terms_of (tree_at terms.now) present.now)) (terms_of (tree_at terms.now) present.now) labels.items) }
 {

@@ -24,6 +24,9 @@
 //! They do where a denied equation stands inside a class, or where a class has two different constants (`denials`), or two
 //! kinds, or a kind and its denial (`kinds`, `meeting`); `firsts` finds in one pass that no class has such kinds. `clashing`
 //! puts these together. The definition is that of `wy_search_spec`.
+//!
+//! `equality` has the classes of terms that are put in one after the other, by equations that are assumed, and says which equations it is
+//! by that two terms are equal.
 #![tactic(auto)]
 
 mod atoms;
@@ -31,9 +34,9 @@ mod caught;
 mod choice;
 mod clashing;
 mod closing;
-pub mod congruence_closure;
 mod congruent;
 mod denials;
+pub mod equality;
 mod firsts;
 mod groups;
 mod kinds;

@@ -37,8 +37,8 @@ fn is_term(terms: &Terms, k: u32) -> bool
     }
 }
 
-// One term more.
-fn note(present: &mut Present, k: u32) -> Result<(), NoMemory>
+/// One term more.
+pub fn note(present: &mut Present, k: u32) -> Result<(), NoMemory>
     requires places { ArePlaced present.old }
     ensures value { OnOk result (present.new.numbers.items ≡ present.old.numbers.items ++ k ∷ []) }
     ensures places { OnOk result (ArePlaced present.new) }

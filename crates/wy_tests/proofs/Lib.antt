@@ -1,3 +1,2 @@
 pub mod CodeLemmas
-pub mod NodeLemmas
 pub mod WithinLemmas

@@ -1,110 +1,201 @@
-//! By which of some equations two nodes are equal. Which nodes are, the contract of `classes` says.
-ghost use Rattle.std.specs.Prelude.{◌≡◌, ◌<◌, ℕ, IsTrue};
-ghost use Rattle.wy_cong.specs.declared.congruence_closure.nodes.Shape.TheVariants.{Apply};
-ghost use Rattle.wy_cong.specs.congruence_closure.Congruence.{AreBetween, AreWithin};
+//! By which of some equations two terms are equal. Which terms are, the contract of `Classes` says.
+ghost use Rattle.std.specs.Prelude.{◌<◌, length, IfOk};
+ghost use Rattle.wy_cong.specs.equality.Equality.{AreClasses};
 
 use std::alloc::Global;
-use wy_cong::congruence_closure::{NoMemory, Shape, classes, explain, is_same};
-use wy_items::Items;
+use wy_cong::equality::Classes;
+use wy_term::{Name, NoMemory, Node, Terms};
 
-// A row a line: nodes, equations, two nodes that are equal, and the numbers of the equations by which they are. The others are not needed,
-// and each of these is, whatever others stay. The first node is called a, the next one b, and so on: `-` is a name, and `cb` the application
-// of c to b.
+// A row a line: terms that are put in, with what stands in them; equations; two terms; and the literals by which these are equal, which
+// are the numbers of the equations, or `-` where they aren't. The others are not needed, and each of these is, whatever others stay. A
+// term is written by words, the last one its head: `v i num get` is `get(v.0, num(i.0))`, and `v .f` its field f.
 const ROWS: &str = "\
-- - | ab | aa |
-- - - - | ab cd bc | ac | 0 2
-- - - - | cd ab bc | ad | 0 1 2
-- - - - - ea eb | cd ab | gf | 1
-- - - - - da db eg ec | ea fc de ab | hi | 1 3
-- - ba bc bd be bf - | ea hb ga | ac | 0 2";
+v len ; w len | v = w | v len = w len | 1
+v len ; w len | | v len = w len | -
+v len ; w num | v = w | v len = w num | -
+a ; b ; c ; d | a = b ; c = d ; b = c | a = c | 1 3
+a ; b ; c ; d | c = d ; a = b ; b = c | a = d | 1 2 3
+a ; b ; c | a = b ; b = c ; a = c | a = c | 3
+v i num get ; w j num get ; k | v = w ; j = k ; i = j | v i num get = w j num get | 1 3
+v i num get ; w j num get | v = w | v i num get = w j num get | -
+a .f .f .f ; a .g | a = a .f .f ; a .f .f .f = a | a .f = a | 1 2
+a .f ; a .g | a = a .f | a .f = a .g | -";
 
-// The two nodes that a word names.
-fn pair(word: &str) -> (u32, u32) {
-    match word.as_bytes() {
-        [a, b] => (node(*a), node(*b)),
-        _ => (0, 0),
+// The term that was made last.
+fn popped(terms: &Terms, stack: &mut Vec<u32>) -> Result<u32, NoMemory>
+    ensures { IfOk result (λ t. t < length terms.now) }
+{
+    match stack.pop() {
+        Some(t) => {
+            if (t as usize) < terms.len() {
+                Ok(t)
+            } else {
+                Err(NoMemory)
+            }
+        }
+        None => Err(NoMemory),
     }
 }
 
-fn node(letter: u8) -> u32 {
-    u32::from(letter.saturating_sub(b'a'))
+fn name(alloc: Global, word: &str) -> Result<Name, NoMemory> {
+    Ok(Name::new(String::from_str(alloc, word)?))
 }
 
-fn pairs(alloc: Global, text: &str) -> Result<Vec<(u32, u32)>, NoMemory> {
-    let mut list = Vec::new(alloc);
+// The term with this head, of the terms that were made last.
+fn headed(terms: &mut Terms, stack: &mut Vec<u32>, word: &str) -> Result<u32, NoMemory> {
+    match word {
+        "len" => {
+            let v = popped(terms, stack)?;
+            terms.intern(Node::Len(v))
+        }
+        "num" => {
+            let v = popped(terms, stack)?;
+            terms.intern(Node::Num(v))
+        }
+        "get" => {
+            let i = popped(terms, stack)?;
+            let v = popped(terms, stack)?;
+            terms.intern(Node::Get(v, i))
+        }
+        ".f" => {
+            let v = popped(terms, stack)?;
+            let f = name(terms.allocator(), "f")?;
+            terms.intern(Node::Field(v, f))
+        }
+        ".g" => {
+            let v = popped(terms, stack)?;
+            let g = name(terms.allocator(), "g")?;
+            terms.intern(Node::Field(v, g))
+        }
+        _ => {
+            let x = name(terms.allocator(), word)?;
+            terms.intern(Node::ValName(x, 0))
+        }
+    }
+}
+
+// The number of the term that a text writes.
+fn term(terms: &mut Terms, text: &str) -> Result<u32, NoMemory> {
+    let mut stack = Vec::new(terms.allocator());
     for word in text.split_whitespace() {
-        list.push(pair(word))?;
+        let t = headed(terms, &mut stack, word)?;
+        stack.push(t)?;
+    }
+    popped(terms, &mut stack)
+}
+
+// Terms with a character between each two, none where nothing stands there.
+fn read_all(terms: &mut Terms, text: &str, between: char) -> Result<Vec<u32>, NoMemory> {
+    let mut list = Vec::new(terms.allocator());
+    if text.trim().is_empty() {
+        return Ok(list);
+    }
+    for word in text.split(between) {
+        list.push(term(terms, word)?)?;
     }
     Ok(list)
 }
 
-fn shapes(alloc: Global, text: &str) -> Result<Vec<Shape>, NoMemory> {
-    let mut list = Vec::new(alloc);
-    for word in text.split_whitespace() {
-        let (f, a) = pair(word);
-        list.push(if word == "-" {
-            Shape::Name
-        } else {
-            Shape::Apply(f, a)
-        })?;
+// Equations, each as its two sides.
+fn sides(terms: &mut Terms, text: &str) -> Result<Vec<Vec<u32>>, NoMemory> {
+    let mut list = Vec::new(terms.allocator());
+    if text.trim().is_empty() {
+        return Ok(list);
+    }
+    for word in text.split(';') {
+        list.push(read_all(terms, word, '=')?)?;
     }
     Ok(list)
 }
 
-// Whether what a node is of, if it is an application, are among so many nodes.
-fn is_within(shape: Shape, count: usize) -> bool
-    ensures { IsTrue result → (f a : ℕ) → shape ≡ Apply f a → (f < count) × (a < count) }
+// Puts in these terms.
+fn put_in(terms: &Terms, classes: &mut Classes, all: &[u32]) -> Result<(), NoMemory>
+    requires { AreClasses terms.now classes.old }
+    ensures { AreClasses terms.now classes.new }
 {
-    match shape {
-        Shape::Name => true,
-        Shape::Apply(f, a) => (f as usize) < count && (a as usize) < count,
-    }
-}
-
-// Whether what applications are of are nodes.
-#[tactic(auto, using(crate::proofs::NodeLemmas::below_none))]
-fn are_within(shapes: &[Shape]) -> bool
-    ensures { IsTrue result → AreWithin shapes.now }
-{
-    for shape in shapes {
-        if !is_within(*shape, shapes.len()) {
-            return false;
+    for t in all {
+        if *t as usize >= terms.len() {
+            return Err(NoMemory);
         }
+        classes.add(terms, *t)?;
     }
-    true
+    Ok(())
 }
 
-// Whether both sides of each equation are among so many nodes.
-#[tactic(auto, using(crate::proofs::NodeLemmas::between_none))]
-fn are_between(count: usize, equations: &[(u32, u32)]) -> bool
-    ensures { IsTrue result → AreBetween count equations.now }
+// Assumes an equation between two terms.
+fn assume(
+    terms: &Terms,
+    classes: &mut Classes,
+    sides: &[u32],
+    literal: u32,
+) -> Result<(), NoMemory>
+    requires { AreClasses terms.now classes.old }
+    ensures { AreClasses terms.now classes.new }
 {
-    for e in equations {
-        if e.0 as usize >= count || e.1 as usize >= count {
-            return false;
+    match sides {
+        [s, t] => {
+            if *s as usize >= terms.len() || *t as usize >= terms.len() {
+                return Err(NoMemory);
+            }
+            classes.assume_equal(terms, *s, *t, literal)
         }
+        _ => Err(NoMemory),
     }
-    true
 }
 
-// The numbers of the equations by which two nodes are equal.
+// Assumes these equations, with the numbers from 1 as their literals.
+fn assume_all(terms: &Terms, classes: &mut Classes, all: &[Vec<u32>]) -> Result<(), NoMemory>
+    requires { AreClasses terms.now classes.old }
+    ensures { AreClasses terms.now classes.new }
+{
+    let mut literal = 0u32;
+    for sides in all {
+        literal = literal.saturating_add(1);
+        assume(terms, classes, sides, literal)?;
+    }
+    Ok(())
+}
+
+// The literals by which two terms are equal, if they are.
 fn explained(
+    terms: &Terms,
+    classes: &Classes,
+    s: u32,
+    t: u32,
+) -> Result<Option<Vec<u32>>, NoMemory>
+    requires { AreClasses terms.now classes.now }
+{
+    if s as usize >= terms.len() || t as usize >= terms.len() {
+        return Err(NoMemory);
+    }
+    if !classes.has(terms, s) || !classes.has(terms, t) {
+        return Err(NoMemory);
+    }
+    if !classes.equal(terms, s, t) {
+        return Ok(None);
+    }
+    let literals = classes.explain(terms, s, t)?;
+    Ok(Some(literals))
+}
+
+// What a row says of its two terms.
+fn answer(
     alloc: Global,
-    shapes: &[Shape],
-    equations: &[(u32, u32)],
-    e: (u32, u32),
-) -> Result<Items<u32>, NoMemory> {
-    if !are_within(shapes) || !are_between(shapes.len(), equations) {
-        return Err(NoMemory);
+    put: &str,
+    equations: &str,
+    pair: &str,
+) -> Result<Option<Vec<u32>>, NoMemory> {
+    let mut terms = Terms::new(alloc);
+    let put = read_all(&mut terms, put, ';')?;
+    let equations = sides(&mut terms, equations)?;
+    let pair = read_all(&mut terms, pair, '=')?;
+    let mut classes = Classes::new(alloc);
+    put_in(&terms, &mut classes, &put)?;
+    assume_all(&terms, &mut classes, &equations)?;
+    match pair.as_slice() {
+        [s, t] => explained(&terms, &classes, *s, *t),
+        _ => Err(NoMemory),
     }
-    if e.0 as usize >= shapes.len() || e.1 as usize >= shapes.len() {
-        return Err(NoMemory);
-    }
-    let labels = classes(alloc, shapes, equations)?;
-    if !is_same(labels.as_slice(), e.0, e.1) {
-        return Err(NoMemory);
-    }
-    explain(alloc, shapes, equations, e.0, e.1)
 }
 
 #[test]
@@ -112,13 +203,17 @@ fn equations_are_needed_so(rt: HostRuntime) -> Result<(), NoMemory> {
     let alloc = rt.alloc();
     for row in ROWS.lines() {
         let mut fields = row.split('|');
-        let shapes = shapes(alloc, fields.next().unwrap_or(""))?;
-        let equations = pairs(alloc, fields.next().unwrap_or(""))?;
-        let e = pair(fields.next().unwrap_or("").trim());
-        let numbers = explained(alloc, &shapes, &equations, e)?;
+        let put = fields.next().unwrap_or("");
+        let equations = fields.next().unwrap_or("");
+        let pair = fields.next().unwrap_or("");
         let mut shown = String::new(alloc);
-        for number in numbers.as_slice() {
-            write!(shown, "{number} ")?;
+        match answer(alloc, put, equations, pair)? {
+            None => write!(shown, "-")?,
+            Some(literals) => {
+                for literal in literals.as_slice() {
+                    write!(shown, "{literal} ")?;
+                }
+            }
         }
         assert_eq!(rt; shown.trim(), fields.next().unwrap_or("").trim(), "{row}");
     }

@@ -2,7 +2,7 @@
 //! that they stand on.
 //!
 //! `reading` and `types` have the example of a reader and normal forms of types. `congruence` and `elimination` have the
-//! least congruence of equations between nodes, and the steps and numbers of an elimination. `rows` has routines of the
+//! least congruence of equations between terms, and the steps and numbers of an elimination. `rows` has routines of the
 //! machine under caps, counts of steps and sinks that no command sets: `assembler` makes code of texts, `turns` makes turns
 //! until they end, and `ends` says how they do. `drawing` has the shared counter, and `discharging` the workers that draw
 //! from it, over the gates of `gates` and the conditions of `owing`.

@@ -1,0 +1,45 @@
+-- Equations that are assumed one after the other, and the classes that they make.
+use Rattle.std.proofs.Common.{◌≡◌, ◌∙◌, ◌+◌, ◌<◌, ◌↔◌, ℕ, suc, List, [], ◌∷◌, ◌++◌, drop, get_or, length, zero, true, Option, Some, None, refl, sym, ap, subst, arith}
+use Rattle.std.specs.Prelude.{slice_get}
+use Rattle.wy_lemmas.proofs.Lists.{drop_here, last_or}
+use Rattle.wy_term.specs.Term.{Term}
+use Rattle.wy_term.specs.Nodes.{Plain, tree_at}
+use Rattle.wy_search_spec.specs.Classes.{classes, in_one_class, with_equal, with_equations}
+use Rattle.wy_search_spec.specs.least.Least.{IsAmong}
+use Rattle.wy_search_spec.proofs.least_lemmas.LeastLemmas.{classes_least}
+use Rattle.wy_cong.specs.Seen.{IsPresent}
+use Rattle.wy_cong.specs.declared.equality.labelling.Equation.{Equation}
+use Rattle.wy_cong.specs.declared.equality.least.Classes.{Classes}
+use Rattle.wy_cong.specs.equality.Equality.{assumed, terms_in, AreClasses, AreEqual, AreSides, IsIn}
+
+abbrev some_equation : Equation → Option Equation
+some_equation e = Some e
+
+pub item_here : (es : List Equation) (i : ℕ) (e : Equation) → i < length es → e ≡ get_or es i e → slice_get es i ≡ Some e
+item_here [] i e lt is = absurd (omega (arith, lt))
+item_here (x ∷ xs) zero e lt is = ap some_equation (sym is)
+item_here (x ∷ xs) (suc i) e lt is = item_here xs i e (omega (arith, lt)) is
+
+-- what is left comes to what all came to
+pub equations_next : (ts : List Term) (at : ℕ → Term) (es : List Equation) (i : ℕ) (e : Equation) (old new total : List ℕ) → slice_get es i ≡ Some e → new ≡ with_equal ts old (at e.first) (at e.second) → with_equations ts old (assumed at (drop i es)) ≡ total → with_equations ts new (assumed at (drop (i + 1) es)) ≡ total
+equations_next ts at es i e old new total here is so =
+    ap (λ (ls : List ℕ). with_equations ts ls (assumed at (drop (i + 1) es))) is
+    ∙ (ap (λ (qs : List Equation). with_equations ts old (assumed at qs)) (sym (drop_here es i e here)) ∙ so)
+
+-- one equation more
+pub sides_more : (count : ℕ) (es new : List Equation) (e : Equation) → AreSides count es → e.first < count → e.second < count → new ≡ es ++ e ∷ [] → AreSides count new
+sides_more count es new e sides first second is = subst (AreSides count) (sym is) (more es sides)
+  where
+    more : (xs : List Equation) → AreSides count xs → AreSides count (xs ++ e ∷ [])
+    more [] h zero f here = let same : e ≡ f = cc in subst (λ (g : Equation). (g.first < count) × (g.second < count)) same (first, second)
+    more [] h (suc i) f here = absurd cc
+    more (x ∷ xs) h zero f here = h zero f here
+    more (x ∷ xs) h (suc i) f here = more xs (λ j g is. h (suc j) g is) i f here
+
+-- the labels say which terms are equal
+pub equal_by_labels : (nodes : List Plain) (c : Classes) (s t : ℕ) → AreClasses nodes c → IsIn (tree_at nodes) c s → IsIn (tree_at nodes) c t → (in_one_class (terms_in (tree_at nodes) c) c.labels.items (tree_at nodes s) (tree_at nodes t) ≡ true) ↔ AreEqual (tree_at nodes) c s t
+equal_by_labels nodes c s t are first second =
+    let ts = terms_in (tree_at nodes) c in
+    let least = classes_least ts (assumed (tree_at nodes) c.equations.items) (tree_at nodes s) (tree_at nodes t) first second in
+    ( (λ e. least.sound (subst (λ (ls : List ℕ). in_one_class ts ls (tree_at nodes s) (tree_at nodes t) ≡ true) are.labels e)),
+      (λ h. subst (λ (ls : List ℕ). in_one_class ts ls (tree_at nodes s) (tree_at nodes t) ≡ true) (sym are.labels) (least.least h)) )
