@@ -123,12 +123,7 @@ fn put_in(terms: &Terms, classes: &mut Classes, all: &[u32]) -> Result<(), NoMem
 }
 
 // Assumes an equation between two terms.
-fn assume(
-    terms: &Terms,
-    classes: &mut Classes,
-    sides: &[u32],
-    literal: u32,
-) -> Result<(), NoMemory>
+fn assume(terms: &Terms, classes: &mut Classes, sides: &[u32], literal: u32) -> Result<(), NoMemory>
     requires { AreClasses terms.now classes.old }
     ensures { AreClasses terms.now classes.new }
 {
@@ -157,12 +152,7 @@ fn assume_all(terms: &Terms, classes: &mut Classes, all: &[Vec<u32>]) -> Result<
 }
 
 // The literals by which two terms are equal, if they are.
-fn explained(
-    terms: &Terms,
-    classes: &Classes,
-    s: u32,
-    t: u32,
-) -> Result<Option<Vec<u32>>, NoMemory>
+fn explained(terms: &Terms, classes: &Classes, s: u32, t: u32) -> Result<Option<Vec<u32>>, NoMemory>
     requires { AreClasses terms.now classes.now }
 {
     if s as usize >= terms.len() || t as usize >= terms.len() {

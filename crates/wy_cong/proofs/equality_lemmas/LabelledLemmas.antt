@@ -40,6 +40,7 @@ sides_more count es new e sides first second is = subst (AreSides count) (sym is
 pub equal_by_labels : (nodes : List Plain) (c : Classes) (s t : ℕ) → AreClasses nodes c → IsIn (tree_at nodes) c s → IsIn (tree_at nodes) c t → (in_one_class (terms_in (tree_at nodes) c) c.labels.items (tree_at nodes s) (tree_at nodes t) ≡ true) ↔ AreEqual (tree_at nodes) c s t
 equal_by_labels nodes c s t are first second =
     let ts = terms_in (tree_at nodes) c in
-    let least = classes_least ts (assumed (tree_at nodes) c.equations.items) (tree_at nodes s) (tree_at nodes t) first second in
-    ( (λ e. least.sound (subst (λ (ls : List ℕ). in_one_class ts ls (tree_at nodes s) (tree_at nodes t) ≡ true) are.labels e)),
-      (λ h. subst (λ (ls : List ℕ). in_one_class ts ls (tree_at nodes s) (tree_at nodes t) ≡ true) (sym are.labels) (least.least h)) )
+    let least = classes_least ts (assumed (tree_at nodes) c.equations.items) (tree_at nodes s) (tree_at nodes t) first second in (
+      (λ e. least.sound (subst (λ (ls : List ℕ). in_one_class ts ls (tree_at nodes s) (tree_at nodes t) ≡ true) are.labels e)),
+      (λ h. subst (λ (ls : List ℕ). in_one_class ts ls (tree_at nodes s) (tree_at nodes t) ≡ true) (sym are.labels) (least.least h)),
+    )

@@ -1,7 +1,13 @@
 //! The least congruence of the equations that are assumed, on the terms that are put in.
 ghost use Rattle.std.specs.Prelude.{◌≡◌, ◌<◌, ◌↔◌, ◌++◌, ◌∷◌, [], ℕ, List, length, true, IfOk, OnErr, OnOk};
 ghost use Rattle.wy_cong.specs.equality.Equality.{
-    all_put_in, terms_in, with_parts, AreClasses, AreEqual, Explains, IsIn,
+  all_put_in,
+  terms_in,
+  with_parts,
+  AreClasses,
+  AreEqual,
+  Explains,
+  IsIn,
 };
 ghost use Rattle.wy_search_spec.specs.wy_check_spec.judge.Node.{has_formula};
 ghost use Rattle.wy_search_spec.specs.Standing.{is_term_sort};
