@@ -5,11 +5,12 @@ use Rattle.wy_lemmas.proofs.Lists.{drop_here, last_or}
 use Rattle.wy_term.specs.Term.{Term}
 use Rattle.wy_term.specs.Nodes.{Plain, tree_at}
 use Rattle.wy_search_spec.specs.Classes.{classes, in_one_class, with_equal, with_equations}
-use Rattle.wy_search_spec.specs.least.Least.{IsAmong}
+use Rattle.wy_search_spec.specs.least.Least.{AreSame, IsAmong}
 use Rattle.wy_search_spec.proofs.least_lemmas.LeastLemmas.{classes_least}
 use Rattle.wy_cong.specs.Seen.{IsPresent}
 use Rattle.wy_cong.specs.declared.equality.labelling.Equation.{Equation}
 use Rattle.wy_cong.specs.declared.equality.least.Classes.{Classes}
+use Rattle.wy_cong.specs.equality.Equations.{Give}
 use Rattle.wy_cong.specs.equality.Equality.{assumed, terms_in, AreClasses, AreEqual, AreSides, IsIn}
 
 abbrev some_equation : Equation → Option Equation
@@ -19,6 +20,9 @@ pub item_here : (es : List Equation) (i : ℕ) (e : Equation) → i < length es 
 item_here [] i e lt is = absurd (omega (arith, lt))
 item_here (x ∷ xs) zero e lt is = ap some_equation (sym is)
 item_here (x ∷ xs) (suc i) e lt is = item_here xs i e (omega (arith, lt)) is
+
+pub item_read : (es : List Equation) (i : ℕ) (e : Equation) → i < length es → Some e ≡ slice_get es i → slice_get es i ≡ Some e
+item_read es i e lt is = sym is
 
 -- what is left comes to what all came to
 pub equations_next : (ts : List Term) (at : ℕ → Term) (es : List Equation) (i : ℕ) (e : Equation) (old new total : List ℕ) → slice_get es i ≡ Some e → new ≡ with_equal ts old (at e.first) (at e.second) → with_equations ts old (assumed at (drop i es)) ≡ total → with_equations ts new (assumed at (drop (i + 1) es)) ≡ total
@@ -44,3 +48,10 @@ equal_by_labels nodes c s t are first second =
       (λ e. least.sound (subst (λ (ls : List ℕ). in_one_class ts ls (tree_at nodes s) (tree_at nodes t) ≡ true) are.labels e)),
       (λ h. subst (λ (ls : List ℕ). in_one_class ts ls (tree_at nodes s) (tree_at nodes t) ≡ true) (sym are.labels) (least.least h)),
     )
+
+-- a congruence on the terms that are put in, by equations that give it
+pub given_equal : (at : ℕ → Term) (ts : List Term) (es : List Equation) (s t : ℕ) → IsAmong ts (at s) → IsAmong ts (at t) → AreSame ts (assumed at es) (at s) (at t) → Give at ts es s t
+given_equal at ts es s t first second same = (classes_least ts (assumed at es) (at s) (at t) first second).least same
+
+pub same_given : (at : ℕ → Term) (ts : List Term) (es : List Equation) (s t : ℕ) → IsAmong ts (at s) → IsAmong ts (at t) → Give at ts es s t → AreSame ts (assumed at es) (at s) (at t)
+same_given at ts es s t first second give = (classes_least ts (assumed at es) (at s) (at t) first second).sound give

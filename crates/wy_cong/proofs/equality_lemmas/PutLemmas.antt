@@ -1,5 +1,5 @@
 -- Terms that are put in one after the other.
-use Rattle.std.proofs.Common.{◌≡◌, ◌∙◌, ◌+◌, ◌≤◌, ◌||◌, ℕ, suc, List, [], ◌∷◌, ◌++◌, map, length, drop, Bool, true, false, cond, Option, Some, None, refl, sym, ap, subst}
+use Rattle.std.proofs.Common.{◌≡◌, ◌∙◌, ◌+◌, ◌<◌, ◌≤◌, ◌||◌, ℕ, zero, suc, List, [], ◌∷◌, ◌++◌, map, length, drop, Bool, true, false, cond, Option, Some, None, get_or, refl, sym, ap, subst, arith}
 use Rattle.std.specs.Prelude.{slice_get}
 use Rattle.std.proofs.lemmas.List.{append-nil}
 use Rattle.wy_lemmas.proofs.Lists.{drop_here, drop_end, map_pushed}
@@ -48,6 +48,11 @@ put_has done t = by (has_formula done t) refl
     by false e = last_has done t
 
 -- ---- all of them
+
+pub number_here : (ks : List ℕ) (i k : ℕ) → i < length ks → k ≡ get_or ks i k → slice_get ks i ≡ Some k
+number_here [] i k lt is = absurd (omega (arith, lt))
+number_here (j ∷ js) zero k lt is = ap (λ (m : ℕ). Some m) (sym is)
+number_here (j ∷ js) (suc i) k lt is = number_here js i k (omega (arith, lt)) is
 
 -- what is left comes to what all came to
 pub put_next : (at : ℕ → Term) (ks : List ℕ) (i k : ℕ) (old new total : List Term) → slice_get ks i ≡ Some k → new ≡ put_in old (at k) → all_put_in old (map at (drop i ks)) ≡ total → all_put_in new (map at (drop (i + 1) ks)) ≡ total

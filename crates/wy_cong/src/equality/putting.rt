@@ -11,16 +11,16 @@ use std::collections::HashMap;
 use wy_check_splits::{add_literal, bare};
 use wy_term::{NoMemory, Terms};
 
-// The same terms, with their places.
-fn copied(alloc: Global, present: &Present) -> Result<Present, NoMemory>
-    ensures numbers { IfOk result (λ made. made.numbers.items ≡ present.now.numbers.items) }
+// The terms with these numbers, with their places.
+fn copied(alloc: Global, numbers: &[u32]) -> Result<Present, NoMemory>
+    ensures numbers { IfOk result (λ made. made.numbers.items ≡ numbers.now) }
     ensures places { IfOk result ArePlaced }
 {
     let mut made = Present {
-        numbers: Vec::with_capacity(alloc, present.numbers.len())?,
+        numbers: Vec::with_capacity(alloc, numbers.len())?,
         places: HashMap::new(alloc),
     };
-    for k in &present.numbers {
+    for k in numbers {
         note(&mut made, *k)?;
     }
     Ok(made)
@@ -68,6 +68,6 @@ pub fn with_term(terms: &Terms, present: &Present, t: u32) -> Result<Present, No
     let mut branch = bare(alloc);
     add_literal(terms, &mut branch, t, true)?;
     let more = terms_present(terms, &branch)?;
-    let made = copied(alloc, present)?;
+    let made = copied(alloc, &present.numbers)?;
     put_all(terms, made, &more.numbers)
 }

@@ -4,6 +4,6 @@ use Rattle.wy_cong.proofs.equality.putting.copied.Given as goal
 
 abbrev pub invariant-loop-k : goal.invariant-loop-k
 invariant-loop-k l = record {
-  left : l.made.numbers.items ++ drop l.k-index l.present.numbers.items ≡ l.present.numbers.items;
+  left : l.made.numbers.items ++ drop l.k-index l.numbers ≡ l.numbers;
   places : ArePlaced l.made;
 }
