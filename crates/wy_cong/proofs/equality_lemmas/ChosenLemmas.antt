@@ -1,10 +1,10 @@
 -- Equations that are chosen, and those that are left.
-use Rattle.std.proofs.Common.{◌≡◌, ◌∙◌, ◌+◌, ◌<◌, ◌≤◌, ℕ, zero, suc, List, [], ◌∷◌, ◌++◌, drop, map, length, get_or, true, Some, None, refl, sym, ap, subst, append-nil, arith}
+use Rattle.std.proofs.Common.{◌≡◌, ◌∙◌, ◌+◌, ◌<◌, ◌≤◌, ℕ, zero, suc, List, [], ◌∷◌, ◌++◌, drop, length, Some, None, refl, sym, ap, subst, append-nil}
 use Rattle.std.specs.Prelude.{slice_get}
 use Rattle.wy_lemmas.proofs.Lists.{drop_end, drop_here}
 use Rattle.wy_term.specs.Term.{Term}
 use Rattle.wy_cong.specs.declared.equality.labelling.Equation.{Equation}
-use Rattle.wy_cong.specs.equality.Equality.{AreOf, AreSides}
+use Rattle.wy_cong.specs.equality.Equality.{named_by, AreOf, AreSides}
 use Rattle.wy_cong.specs.equality.Equations.{Give}
 
 -- ---- sides
@@ -51,14 +51,14 @@ give_end at ts all chosen n s t le so =
 
 -- ---- literals
 
-pub literals_next : (es : List Equation) (i : ℕ) (e : Equation) (old new total : List ℕ) → slice_get es i ≡ Some e → new ≡ old ++ e.literal ∷ [] → old ++ map (λ f. f.literal) (drop i es) ≡ total → new ++ map (λ f. f.literal) (drop (i + 1) es) ≡ total
+pub literals_next : (es : List Equation) (i : ℕ) (e : Equation) (old new total : List ℕ) → slice_get es i ≡ Some e → new ≡ old ++ e.literal ∷ [] → old ++ named_by (drop i es) ≡ total → new ++ named_by (drop (i + 1) es) ≡ total
 literals_next es i e old new total here is so =
-    ap (λ (l : List ℕ). l ++ map (λ f. f.literal) (drop (i + 1) es)) is
-    ∙ (numbers old (map (λ f. f.literal) (drop (i + 1) es)) e.literal ∙ (ap (λ (fs : List Equation). old ++ map (λ f. f.literal) fs) (sym (drop_here es i e here)) ∙ so))
+    ap (λ (l : List ℕ). l ++ named_by (drop (i + 1) es)) is
+    ∙ (numbers old (named_by (drop (i + 1) es)) e.literal ∙ (ap (λ (fs : List Equation). old ++ named_by fs) (sym (drop_here es i e here)) ∙ so))
   where
     numbers : (xs ys : List ℕ) (x : ℕ) → (xs ++ x ∷ []) ++ ys ≡ xs ++ x ∷ ys
     numbers [] ys x = refl
     numbers (z ∷ zs) ys x = ap (λ (l : List ℕ). z ∷ l) (numbers zs ys x)
 
-pub literals_end : (es : List Equation) (i : ℕ) (old total : List ℕ) → length es ≤ i → old ++ map (λ f. f.literal) (drop i es) ≡ total → old ≡ total
-literals_end es i old total le so = sym (append-nil old) ∙ (ap (λ (fs : List Equation). old ++ map (λ f. f.literal) fs) (sym (drop_end es i le)) ∙ so)
+pub literals_end : (es : List Equation) (i : ℕ) (old total : List ℕ) → length es ≤ i → old ++ named_by (drop i es) ≡ total → old ≡ total
+literals_end es i old total le so = sym (append-nil old) ∙ (ap (λ (fs : List Equation). old ++ named_by fs) (sym (drop_end es i le)) ∙ so)

@@ -21,9 +21,6 @@ item_here [] i e lt is = absurd (omega (arith, lt))
 item_here (x ∷ xs) zero e lt is = ap some_equation (sym is)
 item_here (x ∷ xs) (suc i) e lt is = item_here xs i e (omega (arith, lt)) is
 
-pub item_read : (es : List Equation) (i : ℕ) (e : Equation) → i < length es → Some e ≡ slice_get es i → slice_get es i ≡ Some e
-item_read es i e lt is = sym is
-
 -- what is left comes to what all came to
 pub equations_next : (ts : List Term) (at : ℕ → Term) (es : List Equation) (i : ℕ) (e : Equation) (old new total : List ℕ) → slice_get es i ≡ Some e → new ≡ with_equal ts old (at e.first) (at e.second) → with_equations ts old (assumed at (drop i es)) ≡ total → with_equations ts new (assumed at (drop (i + 1) es)) ≡ total
 equations_next ts at es i e old new total here is so =

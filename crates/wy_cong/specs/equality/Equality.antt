@@ -61,9 +61,13 @@ AreEqual at c s t = AreSame (terms_in at c) (assumed at c.equations.items) (at s
 abbrev pub AreOf : List Equation → List Equation → Type 0
 AreOf all es = (i : ℕ) (e : Equation) → slice_get es i ≡ Some e → (k : ℕ) × (slice_get all k ≡ Some e)
 
+-- the literals of equations
+abbrev pub named_by : List Equation → List ℕ
+named_by es = map (λ (e : Equation). e.literal) es
+
 -- these are literals of equations that are assumed, and the two terms are equal by these equations alone
 pub record Explains (at : ℕ → Term) (c : Classes) (s t : ℕ) (literals : List ℕ) : Type 0 where
   pub equations : List Equation
   pub are_assumed : AreOf c.equations.items equations
-  pub names : literals ≡ map (λ e. e.literal) equations
+  pub names : literals ≡ named_by equations
   pub give : AreSame (terms_in at c) (assumed at equations) (at s) (at t)

@@ -1,7 +1,7 @@
 //! Equations by which two terms are equal.
-ghost use Rattle.std.specs.Prelude.{◌≡◌, ◌<◌, ◌+◌, ◌++◌, drop, length, map, IfOk, IsTrue};
+ghost use Rattle.std.specs.Prelude.{◌≡◌, ◌<◌, ◌+◌, ◌++◌, drop, length, IfOk, IsTrue};
 ghost use Rattle.wy_cong.specs.Seen.{terms_of, IsPresent};
-ghost use Rattle.wy_cong.specs.equality.Equality.{AreOf, AreSides};
+ghost use Rattle.wy_cong.specs.equality.Equality.{named_by, AreOf, AreSides};
 ghost use Rattle.wy_cong.specs.equality.Equations.{Give};
 ghost use Rattle.wy_term.specs.Nodes.{tree_at};
 
@@ -100,7 +100,7 @@ pub fn chosen(
 
 /// The numbers of the equations' literals.
 pub fn literals_of(alloc: Global, equations: &[Equation]) -> Result<Vec<u32>, NoMemory>
-    ensures value { IfOk result (λ made. made.items ≡ map (λ e. e.literal) equations.now) }
+    ensures value { IfOk result (λ made. made.items ≡ named_by equations.now) }
 {
     let mut made = Vec::with_capacity(alloc, equations.len())?;
     for e in equations {

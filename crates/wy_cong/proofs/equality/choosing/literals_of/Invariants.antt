@@ -1,5 +1,6 @@
-use Rattle.std.proofs.Common.{◌≡◌, ◌++◌, drop, map}
+use Rattle.std.proofs.Common.{◌≡◌, ◌++◌, drop}
+use Rattle.wy_cong.specs.equality.Equality.{named_by}
 use Rattle.wy_cong.proofs.equality.choosing.literals_of.Given as goal
 
 abbrev pub invariant-loop-e : goal.invariant-loop-e
-invariant-loop-e l = l.made.items ++ map (λ e. e.literal) (drop l.e-index l.equations) ≡ map (λ e. e.literal) l.equations
+invariant-loop-e l = l.made.items ++ named_by (drop l.e-index l.equations) ≡ named_by l.equations

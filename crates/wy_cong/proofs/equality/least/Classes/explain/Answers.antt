@@ -1,8 +1,8 @@
-use Rattle.std.proofs.Common.{◌≡◌, ◌∙◌, ℕ, List, map, true, ap, sym, subst}
+use Rattle.std.proofs.Common.{◌∙◌, List, ap, sym, subst}
 use Rattle.std.proofs.lemmas.Result.{IfOk-weaker}
 use Rattle.wy_term.specs.Nodes.{tree_at}
 use Rattle.wy_cong.specs.declared.equality.labelling.Equation.{Equation}
-use Rattle.wy_cong.specs.equality.Equality.{terms_in, AreOf, AreSides}
+use Rattle.wy_cong.specs.equality.Equality.{named_by, terms_in, AreOf, AreSides}
 use Rattle.wy_cong.specs.equality.Equations.{Give}
 use Rattle.wy_cong.proofs.equality_lemmas.LabelledLemmas.{given_equal, same_given}
 use Rattle.wy_cong.proofs.equality.least.Classes.explain.Goals as goal
@@ -25,7 +25,7 @@ returns c =
       (λ made is. record {
         equations = es;
         are_assumed = subst (λ (all : List Equation). AreOf all es) c.deref.ensures.value c.in_ok-equations.ensures.chosen;
-        names = is ∙ ap (map (λ e. e.literal)) c.as_slice.ensures;
+        names = is ∙ ap named_by c.as_slice.ensures;
         give = same_given at (terms_in at c.args.self.now) es c.args.s c.args.t c.requires.first_in c.requires.second_in c.in_ok-equations.ensures.give;
       })
       c.literals_of.ensures.value;
