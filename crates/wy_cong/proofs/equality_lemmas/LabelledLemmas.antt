@@ -13,13 +13,10 @@ use Rattle.wy_cong.specs.declared.equality.least.Classes.{Classes}
 use Rattle.wy_cong.specs.equality.Equations.{Give}
 use Rattle.wy_cong.specs.equality.Equality.{assumed, terms_in, AreClasses, AreEqual, AreSides, IsIn}
 
-abbrev some_equation : Equation → Option Equation
-some_equation e = Some e
-
-pub item_here : (es : List Equation) (i : ℕ) (e : Equation) → i < length es → e ≡ get_or es i e → slice_get es i ≡ Some e
-item_here [] i e lt is = absurd (omega (arith, lt))
-item_here (x ∷ xs) zero e lt is = ap some_equation (sym is)
-item_here (x ∷ xs) (suc i) e lt is = item_here xs i e (omega (arith, lt)) is
+pub item_at : (es : List Equation) (i : ℕ) (d : Equation) → i < length es → slice_get es i ≡ Some (get_or es i d)
+item_at [] i d lt = absurd (omega (arith, lt))
+item_at (x ∷ xs) zero d lt = refl
+item_at (x ∷ xs) (suc i) d lt = item_at xs i d (omega (arith, lt))
 
 -- what is left comes to what all came to
 pub equations_next : (ts : List Term) (at : ℕ → Term) (es : List Equation) (i : ℕ) (e : Equation) (old new total : List ℕ) → slice_get es i ≡ Some e → new ≡ with_equal ts old (at e.first) (at e.second) → with_equations ts old (assumed at (drop i es)) ≡ total → with_equations ts new (assumed at (drop (i + 1) es)) ≡ total

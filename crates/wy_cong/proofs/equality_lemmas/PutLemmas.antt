@@ -49,10 +49,10 @@ put_has done t = by (has_formula done t) refl
 
 -- ---- all of them
 
-pub number_here : (ks : List ℕ) (i k : ℕ) → i < length ks → k ≡ get_or ks i k → slice_get ks i ≡ Some k
-number_here [] i k lt is = absurd (omega (arith, lt))
-number_here (j ∷ js) zero k lt is = ap (λ (m : ℕ). Some m) (sym is)
-number_here (j ∷ js) (suc i) k lt is = number_here js i k (omega (arith, lt)) is
+pub number_at : (ks : List ℕ) (i d : ℕ) → i < length ks → slice_get ks i ≡ Some (get_or ks i d)
+number_at [] i d lt = absurd (omega (arith, lt))
+number_at (j ∷ js) zero d lt = refl
+number_at (j ∷ js) (suc i) d lt = number_at js i d (omega (arith, lt))
 
 -- what is left comes to what all came to
 pub put_next : (at : ℕ → Term) (ks : List ℕ) (i k : ℕ) (old new total : List Term) → slice_get ks i ≡ Some k → new ≡ put_in old (at k) → all_put_in old (map at (drop i ks)) ≡ total → all_put_in new (map at (drop (i + 1) ks)) ≡ total
@@ -69,11 +69,11 @@ kept_in done (t ∷ ts) u e = kept_in (put_in done t) ts u (listed_has false don
 
 pub all_in : (done ts : List Term) (u : Term) → has_formula ts u ≡ true → has_formula (all_put_in done ts) u ≡ true
 all_in done [] u e = absurd cc
-all_in done (t ∷ ts) u e = by (same_term t u) refl e
+all_in done (t ∷ ts) u e = by (all_in (put_in done t) ts u) (same_term t u) refl e
   where
-    by : (b : Bool) → same_term t u ≡ b → cond b true (has_formula ts u) ≡ true → has_formula (all_put_in (put_in done t) ts) u ≡ true
-    by true same f = kept_in (put_in done t) ts u (subst (λ (v : Term). has_formula (put_in done t) v ≡ true) (terms_are t u same) (put_has done t))
-    by false same f = all_in (put_in done t) ts u f
+    by : (has_formula ts u ≡ true → has_formula (all_put_in (put_in done t) ts) u ≡ true) → (b : Bool) → same_term t u ≡ b → cond b true (has_formula ts u) ≡ true → has_formula (all_put_in (put_in done t) ts) u ≡ true
+    by more true same f = kept_in (put_in done t) ts u (subst (λ (v : Term). has_formula (put_in done t) v ≡ true) (terms_are t u same) (put_has done t))
+    by more false same f = more f
 
 -- ---- a term is one of those that stand in it
 
@@ -91,19 +91,19 @@ unbound_has done (s ∷ ss) t e = unbound_has (cond (has_formula done s.what || 
 
 only_has : (ts : List Term) (t : Term) → is_term_sort (sort_in t) ≡ true → has_formula ts t ≡ true → has_formula (only_terms ts) t ≡ true
 only_has [] t term e = absurd cc
-only_has (u ∷ us) t term e = by (same_term u t) refl e
+only_has (u ∷ us) t term e = by (only_has us t term) (same_term u t) refl e
   where
     rest : (b : Bool) → same_term u t ≡ false → has_formula (only_terms us) t ≡ true → has_formula (cond b (u ∷ only_terms us) (only_terms us)) t ≡ true
     rest true apart f = ap (λ (c : Bool). cond c true (has_formula (only_terms us) t)) apart ∙ f
     rest false apart f = f
 
-    by : (b : Bool) → same_term u t ≡ b → cond b true (has_formula us t) ≡ true → has_formula (only_terms (u ∷ us)) t ≡ true
-    by true same f =
+    by : (has_formula us t ≡ true → has_formula (only_terms us) t ≡ true) → (b : Bool) → same_term u t ≡ b → cond b true (has_formula us t) ≡ true → has_formula (only_terms (u ∷ us)) t ≡ true
+    by more true same f =
         let is : is_term_sort (sort_in u) ≡ true = subst (λ (v : Term). is_term_sort (sort_in v) ≡ true) (sym (terms_are u t same)) term in
         ap (λ (c : Bool). has_formula (cond c (u ∷ only_terms us) (only_terms us)) t) is ∙ ap (λ (c : Bool). cond c true (has_formula (only_terms us) t)) same
-    by false same f = rest (is_term_sort (sort_in u)) same (only_has us t term f)
+    by more false same f = rest (is_term_sort (sort_in u)) same (more f)
 
-one_alone : Term → List Term
+abbrev one_alone : Term → List Term
 one_alone t = t ∷ []
 
 pub stands_in_itself : (t : Term) → is_term_sort (sort_in t) ≡ true → has_formula (with_parts t) t ≡ true

@@ -129,7 +129,7 @@ impl Classes {
         requires second_in { IsIn (tree_at terms.now) self.now t }
         requires classes { AreClasses terms.now self.now }
         requires equal { AreEqual (tree_at terms.now) self.now s t }
-        ensures explains { IfOk result (Explains (tree_at terms.now) self.now s t) }
+        ensures explains { IfOk result (λ made. Explains (tree_at terms.now) self.now s t made.items) }
     {
         let equations = chosen(terms, &self.present, &self.equations, s, t)?;
         literals_of(terms.allocator(), equations.as_slice())

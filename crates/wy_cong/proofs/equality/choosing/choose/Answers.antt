@@ -3,7 +3,7 @@ use Rattle.wy_term.specs.Nodes.{tree_at}
 use Rattle.wy_cong.specs.declared.equality.labelling.Equation.{Equation}
 use Rattle.wy_cong.specs.Seen.{terms_of}
 use Rattle.wy_cong.proofs.equality_lemmas.ChosenLemmas.{give_more, of_more, sides_others}
-use Rattle.wy_cong.proofs.equality_lemmas.LabelledLemmas.{item_here}
+use Rattle.wy_cong.proofs.equality_lemmas.LabelledLemmas.{item_at}
 use Rattle.wy_cong.proofs.equality.choosing.choose.Goals as goal
 
 pub are_equal-requires-clause-sides : goal.are_equal-requires-clause-sides
@@ -14,9 +14,9 @@ are_equal-requires-clause-sides c =
 
 pub returns-clause-chosen : goal.returns-clause-chosen
 returns-clause-chosen c =
-    of_more c.args.equations.now c.args.chosen c.push.new.self c.args.k c.index.result.now c.requires.chosen (item_here c.args.equations.now c.args.k c.index.result.now c.requires.here c.index.ensures) c.in_ok-push.ensures.ok
+    of_more c.args.equations.now c.args.chosen c.push.new.self c.args.k _ c.requires.chosen (item_at c.args.equations.now c.args.k _ c.requires.here) c.in_ok-push.ensures.ok
 
 pub returns-clause-give : goal.returns-clause-give
 returns-clause-give c =
     let at = tree_at c.args.terms.now in
-    give_more at (terms_of at c.args.present.now) c.args.equations.now c.args.chosen c.push.new.self c.args.k c.args.s c.args.t c.index.result.now (item_here c.args.equations.now c.args.k c.index.result.now c.requires.here c.index.ensures) c.in_ok-push.ensures.ok c.requires.give
+    give_more at (terms_of at c.args.present.now) c.args.equations.now c.args.chosen c.push.new.self c.args.k c.args.s c.args.t _ (item_at c.args.equations.now c.args.k _ c.requires.here) c.in_ok-push.ensures.ok c.requires.give

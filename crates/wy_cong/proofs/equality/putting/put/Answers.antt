@@ -12,16 +12,16 @@ returns-in-Some-clause-value c =
     let ts = terms_of at c.args.present in
     put_there ts (at c.args.k) (place_found ts (at c.args.k) c.place.result _ c.place.ensures c.in-Some.is)
 
-pub returns-in-None-clause-value : goal.returns-in-None-clause-value
-returns-in-None-clause-value c =
+pub returns-in_ok-note-in-None-clause-value : goal.returns-in_ok-note-in-None-clause-value
+returns-in_ok-note-in-None-clause-value c =
     let at = tree_at c.args.terms.now in
     let ks = c.args.present.numbers.items in
-    put_more at ks c.note.new.present.numbers.items c.args.k (place_lost (terms_of at c.args.present) (at c.args.k) c.place.result c.place.ensures c.in-None.is) c.in_ok-note.ensures.value
+    put_more at ks c.note.new.present.numbers.items c.args.k (place_lost (terms_of at c.args.present) (at c.args.k) c.place.result c.place.ensures c.in-None.is) c.in_ok-note-in-None.ensures.value
 
-pub returns-in-None-clause-present : goal.returns-in-None-clause-present
-returns-in-None-clause-present c =
+pub returns-in_ok-note-in-None-clause-present : goal.returns-in_ok-note-in-None-clause-present
+returns-in_ok-note-in-None-clause-present c =
     let n = length c.args.terms.now in
     record {
-      below = subst (AreBelow n) (sym c.in_ok-note.ensures.value) (below_last n c.args.present.numbers.items c.args.k c.requires.present.below c.requires.term);
-      places = c.in_ok-note.ensures.places;
+      below = subst (AreBelow n) (sym c.in_ok-note-in-None.ensures.value) (below_last n c.args.present.numbers.items c.args.k c.requires.present.below c.requires.term);
+      places = c.in_ok-note-in-None.ensures.places;
     }

@@ -1,20 +1,19 @@
-use Rattle.std.proofs.Common.{◌<◌, ℕ, length, sym, subst, arith}
+use Rattle.std.proofs.Common.{length, arith}
 use Rattle.wy_term.specs.Nodes.{tree_at}
 use Rattle.wy_cong.specs.Seen.{terms_of}
-use Rattle.wy_cong.proofs.equality_lemmas.PutLemmas.{number_here, put_end, put_next}
+use Rattle.wy_cong.proofs.equality_lemmas.PutLemmas.{number_at, put_end, put_next}
 use Rattle.wy_cong.proofs.equality.putting.put_all.Goals as goal
 
 pub put-requires-clause-term : goal.put-requires-clause-term
 put-requires-clause-term c =
-    subst (λ (k : ℕ). k < length c.args.terms.now) (sym c.k-item.is) (c.requires.terms c.loop-k.k-index c.k-item.result c.loop-k-test.true)
+    c.requires.terms c.loop-k.k-index _ c.loop-k-test.true
 
 pub loop-k-preserved : goal.loop-k-preserved
 loop-k-preserved c =
     let at = tree_at c.args.terms.now in
     let ks = c.args.numbers.now in
-    let here = number_here ks c.loop-k.k-index c.k-item.result c.loop-k-test.true c.k-item.is in
     record {
-      left = put_next at ks c.loop-k.k-index c.k-item.result (terms_of at c.loop-k.made) (terms_of at c.in_ok-made.made) _ here c.in_ok-made.ensures.value c.loop-k.invariant.left;
+      left = put_next at ks c.loop-k.k-index _ (terms_of at c.loop-k.made) (terms_of at c.in_ok-made.made) _ (number_at ks c.loop-k.k-index _ c.loop-k-test.true) c.in_ok-made.ensures.value c.loop-k.invariant.left;
       present = c.in_ok-made.ensures.present;
     }
 

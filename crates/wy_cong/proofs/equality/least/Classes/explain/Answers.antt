@@ -22,11 +22,11 @@ returns c =
     let es = c.in_ok-equations.equations in
     record {
       explains = IfOk-weaker c.literals_of.result _ _
-      (λ made is. record {
-        equations = es;
-        are_assumed = subst (λ (all : List Equation). AreOf all es) c.deref.ensures.value c.in_ok-equations.ensures.chosen;
-        names = is ∙ ap named_by c.as_slice.ensures;
-        give = same_given at (terms_in at c.args.self.now) es c.args.s c.args.t c.requires.first_in c.requires.second_in c.in_ok-equations.ensures.give;
-      })
-      c.literals_of.ensures.value;
+          (λ made is. record {
+            equations = es;
+            are_assumed = subst (λ (all : List Equation). AreOf all es) c.deref.ensures.value c.in_ok-equations.ensures.chosen;
+            names = is ∙ ap named_by c.as_slice.ensures;
+            give = same_given at (terms_in at c.args.self.now) es c.args.s c.args.t c.requires.first_in c.requires.second_in c.in_ok-equations.ensures.give;
+          })
+          c.literals_of.ensures.value;
     }
