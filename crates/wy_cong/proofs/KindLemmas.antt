@@ -6,7 +6,6 @@ use Rattle.wy_term.specs.Term.{Term}
 use Rattle.wy_check_splits.specs.wy_check_nodes.Seen.{seen_literal}
 use Rattle.wy_search_spec.specs.wy_check_spec.valid.Kinds as valid
 use Rattle.wy_search_spec.specs.Classes.{kind_by, kinds_by}
-use Rattle.wy_cong.specs.declared.kinds.Kinded.{Kinded}
 
 -- ---- the kind that an atom gives or denies
 

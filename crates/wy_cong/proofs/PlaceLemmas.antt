@@ -1,6 +1,6 @@
 -- Numbers and their places.
-use Rattle.std.proofs.Common.{◌≡◌, ◌∙◌, ◌+◌, ◌<◌, ◌≤◌, ℕ, suc, List, [], ◌∷◌, ◌++◌, map, length, Bool, true, false, cond, Option, Some, None, refl, sym, ap, subst, arith, append_assoc, drop}
-use Rattle.std.specs.Prelude.{is_some, slice_get, Result, Ok, Err, OnOk}
+use Rattle.std.proofs.Common.{◌≡◌, ◌∙◌, ◌+◌, ◌<◌, ◌≤◌, ℕ, suc, List, [], ◌∷◌, ◌++◌, map, length, Bool, true, false, cond, Option, Some, refl, sym, ap, subst, arith, append_assoc, drop}
+use Rattle.std.specs.Prelude.{slice_get, Result, Ok, Err, OnOk}
 use Rattle.wy_lemmas.proofs.Lists.{drop_here, drop_end, map_pushed as map_last}
 use Rattle.wy_check_splits.proofs.JoinedLemmas.{Forward}
 use Rattle.wy_term.specs.Nodes.{Plain}

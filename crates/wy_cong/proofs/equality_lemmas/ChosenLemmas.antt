@@ -1,5 +1,5 @@
 -- Equations that are chosen, and those that are left.
-use Rattle.std.proofs.Common.{◌≡◌, ◌∙◌, ◌+◌, ◌<◌, ◌≤◌, ℕ, zero, suc, List, [], ◌∷◌, ◌++◌, drop, length, Some, None, refl, sym, ap, subst, append-nil}
+use Rattle.std.proofs.Common.{◌≡◌, ◌∙◌, ◌+◌, ◌≤◌, ℕ, zero, suc, List, [], ◌∷◌, ◌++◌, drop, length, Some, refl, sym, ap, subst, append-nil}
 use Rattle.std.specs.Prelude.{slice_get}
 use Rattle.wy_lemmas.proofs.Lists.{drop_end, drop_here}
 use Rattle.wy_term.specs.Term.{Term}

@@ -1,13 +1,12 @@
 -- Equations that are assumed one after the other, and the classes that they make.
-use Rattle.std.proofs.Common.{◌≡◌, ◌∙◌, ◌+◌, ◌<◌, ◌↔◌, ℕ, suc, List, [], ◌∷◌, ◌++◌, drop, get_or, length, zero, true, Option, Some, None, refl, sym, ap, subst, arith}
+use Rattle.std.proofs.Common.{◌≡◌, ◌∙◌, ◌+◌, ◌<◌, ◌↔◌, ℕ, suc, List, [], ◌∷◌, ◌++◌, drop, get_or, length, zero, true, Some, refl, sym, ap, subst, arith}
 use Rattle.std.specs.Prelude.{slice_get}
-use Rattle.wy_lemmas.proofs.Lists.{drop_here, last_or}
+use Rattle.wy_lemmas.proofs.Lists.{drop_here}
 use Rattle.wy_term.specs.Term.{Term}
 use Rattle.wy_term.specs.Nodes.{Plain, tree_at}
-use Rattle.wy_search_spec.specs.Classes.{classes, in_one_class, with_equal, with_equations}
+use Rattle.wy_search_spec.specs.Classes.{in_one_class, with_equal, with_equations}
 use Rattle.wy_search_spec.specs.least.Least.{AreSame, IsAmong}
 use Rattle.wy_search_spec.proofs.least_lemmas.LeastLemmas.{classes_least}
-use Rattle.wy_cong.specs.Seen.{IsPresent}
 use Rattle.wy_cong.specs.declared.equality.labelling.Equation.{Equation}
 use Rattle.wy_cong.specs.declared.equality.least.Classes.{Classes}
 use Rattle.wy_cong.specs.equality.Equations.{Give}

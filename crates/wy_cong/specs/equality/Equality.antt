@@ -1,5 +1,5 @@
 -- Which terms are equal by the equations that are assumed between them?
-use Rattle.std.specs.Prelude.{◌≡◌, ◌<◌, ℕ, List, [], ◌∷◌, ◌++◌, Bool, true, map, length, Some, slice_get, if◌then◌else◌}
+use Rattle.std.specs.Prelude.{◌≡◌, ◌<◌, ℕ, List, [], ◌∷◌, ◌++◌, true, map, length, Some, slice_get, if◌then◌else◌}
 use Rattle.wy_term.specs.Term.{Term, two, equal}
 use Rattle.wy_term.specs.Nodes.{Plain, tree_at}
 use Rattle.wy_search_spec.specs.wy_check_spec.judge.Node.{Literal, has_formula}

@@ -1,4 +1,4 @@
-use Rattle.std.proofs.Common.{ℕ, List, [], ap, length, map}
+use Rattle.std.proofs.Common.{ℕ, List, ap, length, map}
 use Rattle.wy_check_splits.proofs.wy_check_nodes_proofs.BranchLemmas.{over_get}
 use Rattle.wy_cong.proofs.FirstLemmas.{atoms_behind}
 use Rattle.wy_cong.proofs.choice.pending_atoms.Goals as goal

@@ -1,4 +1,4 @@
-use Rattle.std.proofs.Common.{◌≡◌, ◌∙◌, length, nat_eq, rules}
+use Rattle.std.proofs.Common.{◌≡◌, ◌∙◌, length, rules}
 use Rattle.wy_items.specs.few.Places.{number_place}
 use Rattle.wy_check_splits.proofs.JoinedLemmas.{Forward, forward}
 use Rattle.wy_term.specs.Nodes.{tree_at}

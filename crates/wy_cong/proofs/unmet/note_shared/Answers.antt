@@ -1,4 +1,4 @@
-use Rattle.std.proofs.Common.{◌≡◌, ◌∙◌, ◌≤◌, ◌<◌, true, false, length, map, refl, rules, subst, sym}
+use Rattle.std.proofs.Common.{◌≡◌, ◌≤◌, ◌<◌, true, false, length, map, refl, rules, subst}
 use Rattle.wy_cong.proofs.FirstLemmas.{below_at}
 use Rattle.wy_cong.proofs.ListedLemmas.{unplaced_among}
 use Rattle.wy_cong.proofs.UnmetLemmas.{shared_end, shared_with, shared_without, within_last}

@@ -1,12 +1,11 @@
-use Rattle.std.proofs.Common.{◌≡◌, ◌∙◌, ◌++◌, ◌∷◌, [], List, ℕ, true, false, nat_eq, length, map, sym, ap, refl, subst, rules}
+use Rattle.std.proofs.Common.{◌≡◌, ◌++◌, ◌∷◌, [], true, nat_eq, map, sym, subst, rules}
 use Rattle.std.specs.HashSet.{contains}
 use Rattle.wy_check_splits.specs.wy_check_nodes.Seen.{seen_formula}
-use Rattle.wy_cong.proofs.BegunLemmas.{bind_on, begun_met}
+use Rattle.wy_cong.proofs.BegunLemmas.{begun_met}
 use Rattle.wy_cong.proofs.TaskLemmas.{map_last}
 use Rattle.wy_cong.proofs.walk.bind.Goals as goal
 use Rattle.wy_cong.specs.Begun.{IsUnderWay}
-use Rattle.wy_cong.specs.Walk.{left_at, list_of}
-use Rattle.wy_cong.specs.declared.task.Task.TheVariants.{Bind}
+use Rattle.wy_cong.specs.Walk.{list_of}
 use Rattle.wy_term.specs.Nodes.{tree_at}
 
 pub returns-clause-begun : goal.returns-clause-begun

@@ -1,6 +1,5 @@
-use Rattle.std.proofs.Common.{◌≡◌, ◌⊎◌, inl, inr, ℕ, Some, true, false, nat_eq, rules}
+use Rattle.std.proofs.Common.{◌≡◌, inl, false, nat_eq, rules}
 use Rattle.std.specs.HashSet.{contains}
-use Rattle.std.specs.Prelude.{slice_get}
 use Rattle.wy_cong.proofs.BegunLemmas.{met_now}
 use Rattle.wy_cong.proofs.walk.meet.Goals as goal
 

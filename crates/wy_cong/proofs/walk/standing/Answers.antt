@@ -1,4 +1,4 @@
-use Rattle.std.proofs.Common.{◌≡◌, ◌≤◌, ◌∙◌, [], length, map, ap, rules}
+use Rattle.std.proofs.Common.{◌≤◌, ◌∙◌, [], length, map, ap, rules}
 use Rattle.wy_search_spec.specs.wy_check_spec.judge.Node.{Node}
 use Rattle.wy_check_splits.specs.wy_check_nodes.Seen.{seen_branch, seen_formula}
 use Rattle.wy_cong.proofs.StandingLemmas.{copied_end, copied_next, once_standing}

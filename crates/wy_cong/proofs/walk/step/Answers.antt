@@ -1,13 +1,13 @@
-use Rattle.std.proofs.Common.{◌≡◌, ◌∙◌, ◌++◌, ◌∷◌, ◌-◌, [], List, true, false, nat_eq, length, map, sym, ap, refl, subst, rules, vec_len}
+use Rattle.std.proofs.Common.{◌≡◌, ◌∙◌, ◌∷◌, ◌-◌, [], List, true, false, nat_eq, length, map, sym, ap, refl, subst, rules, vec_len}
 use Rattle.std.specs.HashSet.{contains}
 use Rattle.wy_cong.proofs.BegunLemmas.{begun_on, leave_on, listed_on, none_left}
-use Rattle.wy_cong.proofs.TaskLemmas.{map_last, popped}
+use Rattle.wy_cong.proofs.TaskLemmas.{popped}
 use Rattle.wy_cong.proofs.walk.step.Goals as goal
 use Rattle.wy_cong.specs.Begun.{AreBegun}
 use Rattle.wy_cong.specs.Marks.{with_unmarked}
 use Rattle.wy_cong.specs.Walk.{leads_from, left_at, list_of}
 use Rattle.wy_cong.specs.declared.task.Task.{Task}
-use Rattle.wy_cong.specs.declared.task.Task.TheVariants.{Visit, Bind, Leave}
+use Rattle.wy_cong.specs.declared.task.Task.TheVariants.{Visit, Leave}
 use Rattle.wy_term.specs.Nodes.{tree_at}
 use Rattle.wy_term.specs.Term.{Term}
 

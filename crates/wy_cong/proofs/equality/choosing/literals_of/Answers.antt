@@ -1,4 +1,4 @@
-use Rattle.std.proofs.Common.{length, arith}
+use Rattle.std.proofs.Common.{arith}
 use Rattle.wy_cong.proofs.equality_lemmas.ChosenLemmas.{literals_end, literals_next}
 use Rattle.wy_cong.proofs.equality_lemmas.LabelledLemmas.{item_at}
 use Rattle.wy_cong.proofs.equality.choosing.literals_of.Goals as goal

@@ -1,4 +1,4 @@
-use Rattle.std.proofs.Common.{length, arith}
+use Rattle.std.proofs.Common.{arith}
 use Rattle.wy_cong.proofs.equality_lemmas.PutLemmas.{copied_end, copied_next, number_at}
 use Rattle.wy_cong.proofs.equality.putting.copied.Goals as goal
 

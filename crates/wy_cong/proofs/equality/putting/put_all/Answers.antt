@@ -1,4 +1,4 @@
-use Rattle.std.proofs.Common.{length, arith}
+use Rattle.std.proofs.Common.{arith}
 use Rattle.wy_term.specs.Nodes.{tree_at}
 use Rattle.wy_cong.specs.Seen.{terms_of}
 use Rattle.wy_cong.proofs.equality_lemmas.PutLemmas.{number_at, put_end, put_next}

@@ -1,4 +1,4 @@
-use Rattle.std.proofs.Common.{◌≡◌, ◌∙◌, ℕ, List, true, sym, subst}
+use Rattle.std.proofs.Common.{◌≡◌, ◌∙◌, ℕ, List, sym, subst}
 use Rattle.wy_term.specs.Nodes.{tree_at}
 use Rattle.wy_search_spec.specs.Classes.{in_one_class}
 use Rattle.wy_cong.specs.equality.Equality.{terms_in}
